@@ -1,0 +1,98 @@
+-- Questions 15 to 24 (01, "Questions put to a record", Binding), in the order in which the Rust's `collect_slow` reports.
+use mathlib.Core.Bool.{Bool, true, false, cond, not, _&&_, _||_}
+use mathlib.Core.List.{List, [], _∷_, _++_, map}
+use Prim.Native.Nat.{ℕ, suc}
+use lib.ListN.{length}
+use Rattle.rules.specs.Listing.{any, anyFrom}
+use Rattle.rules.specs.Text.{Text, among}
+use Rattle.rules.specs.Value.{Value}
+use Rattle.rules.specs.Answer.{Answer, fine, refuse, _then_, ask, Detail, name, count, countAndName, Area, specArea, callArea, partOf}
+use Rattle.rules.specs.CallRecord.{Call, Named, Entry, Key, word, number, wordOf, Star, noStar, iterable, notIterable, Double, noDouble, dictionary, notDictionary, entriesOf, positionalsOf, namedOf}
+use Rattle.rules.specs.Parameters.{Parameter, Style, posOnly, posOrNamed, namedOnly, noMore, isRequired, hasArgs, hasKwargs}
+use Rattle.rules.specs.Lookup.{names}
+use Rattle.rules.specs.Placement.{Slot, isUnfilled, fromP, place, starRemainder, namedRemainder}
+
+-- "15 is the star value absent or iterable?"
+abbrev pub starPasses : Star → Bool
+starPasses noStar = true
+starPasses (iterable vs) = true
+starPasses notIterable = false
+
+-- "17 is the double star absent or a dictionary?"
+abbrev pub doublePasses : Double → Bool
+doublePasses noDouble = true
+doublePasses (dictionary es) = true
+doublePasses notDictionary = false
+
+-- the names of some named values
+unfoldable pub textsOf : List Named → List Text
+textsOf vs = map (λ v. v .name) vs
+
+-- is parameter q named by one of the named values?
+unfoldable pub namedBy : List Named → Parameter → Bool
+namedBy vs q = any (λ v. names (v .name .bytes) q) vs
+
+-- "16 is no written name that of a nameable positional slot filled from P (detail: the parameter's name, at the lowest such index)?"
+abbrev pub askRepeats : List Value → List Named → ℕ → List Parameter → Answer
+askRepeats P written i [] = fine
+askRepeats P written i (q ∷ qs) =
+    cond (fromP P i q && namedBy written q) (refuse 16 (name (partOf specArea (q .name)))) (askRepeats P written (suc i) qs)
+
+-- do these bytes name a slot, from index i on, that is filled from P?
+unfoldable pub namesFilled : List Value → ℕ → List Parameter → List ℕ → Bool
+namesFilled P i qs bytes = anyFrom (λ k q. fromP P k q && names bytes q) i qs
+
+-- one entry, after the named values before it: "18 is the key a text? 19 is its nameable slot, or its name in the remainder, still
+-- free (detail: the key)?" A slot is taken by P or by an earlier name; a name of the remainder by the same name before it
+abbrev pub askEntry : List Parameter → List Value → List Named → Key → Answer
+askEntry qs P before (word t) =
+    cond (namesFilled P 0 qs (t .bytes) || among (t .bytes) (textsOf before)) (refuse 19 (name (partOf callArea t))) fine
+askEntry qs P before (number n) = ask 18 false
+
+abbrev pub askEntries : List Parameter → List Value → List Named → List Entry → Answer
+askEntries qs P before [] = fine
+askEntries qs P before (e ∷ es) = askEntry qs P before (e .key) then askEntries qs P (before ++ wordOf (e .key) (e .value)) es
+
+-- "20 for positional-only, 22 for named-only, 21 otherwise"
+abbrev pub missing : Style → ℕ
+missing posOnly = 20
+missing posOrNamed = 21
+missing namedOnly = 22
+missing noMore = 22
+
+-- "Then the lowest empty required parameter (detail: its name)", the parameters beside their slots
+abbrev pub askRequired : List Parameter → List Slot → Answer
+askRequired [] ss = fine
+askRequired (q ∷ qs) [] = fine
+askRequired (q ∷ qs) (s ∷ ss) =
+    cond (isRequired (q .kind) && isUnfilled s) (refuse (missing (q .style)) (name (partOf specArea (q .name)))) (askRequired qs ss)
+
+-- "23 is the star remainder empty, or *args there (detail: count)?"
+abbrev pub askStarRemainder : Bool → List Value → Answer
+askStarRemainder true vs = fine
+askStarRemainder false [] = fine
+askStarRemainder false (v ∷ vs) = refuse 23 (count (length (v ∷ vs)))
+
+-- "24 likewise for names and **kwargs (detail: count, first name)?"
+abbrev pub askNamedRemainder : Bool → List Named → Answer
+askNamedRemainder true vs = fine
+askNamedRemainder false [] = fine
+askNamedRemainder false (v ∷ vs) = refuse 24 (countAndName (length (v ∷ vs)) (partOf callArea (v .name)))
+
+-- 20 to 24, which read P and N alone
+unfoldable pub askPlaced : List Parameter → List Value → List Named → Answer
+askPlaced qs P N =
+    askRequired qs (place qs P N)
+    then askStarRemainder (hasArgs qs) (starRemainder qs P)
+    then askNamedRemainder (hasKwargs qs) (namedRemainder qs N)
+
+-- questions 15 to 24 of a call against a list, in their order: the star value is iterated before repeats are looked for, and
+-- a missing parameter is reported before an unknown name
+unfoldable pub askBinding : List Parameter → Call → Answer
+askBinding qs c =
+    let P : List Value = positionalsOf c in
+    ask 15 (starPasses (c .star))
+    then askRepeats P (c .named) 0 qs
+    then ask 17 (doublePasses (c .double))
+    then askEntries qs P (c .named) (entriesOf (c .double))
+    then askPlaced qs P (namedOf c)

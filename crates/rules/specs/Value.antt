@@ -1,0 +1,60 @@
+-- Values (01, "Cells, texts and records"): a kind cell and a payload cell. 01's own term defined here: well formed.
+use mathlib.Core.Bool.{Bool, _&&_, _||_}
+use mathlib.Core.List.{List, [], _∷_}
+use Prim.Native.Nat.{ℕ, _^_}
+use lib.Dec.{eqb, ltb}
+use lib.ListN.{getD}
+use Rattle.rules.specs.Text.{isText}
+
+pub record Value : Type 0 where
+  pub kind : ℕ
+  pub payload : ℕ
+
+-- how many cells a value takes, what it writes there, and how it is read off the front of some cells
+unfoldable pub valueWidth : ℕ
+valueWidth = 2
+
+unfoldable pub valueCells : Value → List ℕ
+valueCells v = v .kind ∷ v .payload ∷ []
+
+unfoldable pub readValue : List ℕ → Value
+readValue cells = record { kind = getD cells 0 0; payload = getD cells 1 0 }
+
+-- two cells that are 0
+unfoldable pub noValue : Value
+noValue = record { kind = 0; payload = 0 }
+
+-- the kind of a text in the spec area, which defaults use, and of one in the call area, which calls use
+unfoldable pub specText : ℕ
+specText = 5
+
+unfoldable pub callText : ℕ
+callText = 6
+
+-- "1 nothing (payload 0); 2 flag (0 or 1); 3 whole number; 4 real; 5 text in the spec area; 6 text in the call area;
+-- 7 handle (below 2^32)". A whole number is the cell in two's complement and a real its bits, so any cell fits them.
+-- `text` is the kind of text that is used there, `area` where its bytes lie. "Value texts have 0 to 64 bytes"
+unfoldable pub wellFormed : ℕ → List ℕ → Value → Bool
+wellFormed text area v =
+    eqb (v .kind) 1 && eqb (v .payload) 0
+    || eqb (v .kind) 2 && ltb (v .payload) 2
+    || eqb (v .kind) 3
+    || eqb (v .kind) 4
+    || eqb (v .kind) text && isText 0 area (v .payload)
+    || eqb (v .kind) 7 && ltb (v .payload) (2 ^ 32)
+
+-- "Defaults use 1, 2, 3, 4, 5, 7"
+unfoldable pub wellFormedDefault : List ℕ → Value → Bool
+wellFormedDefault area v = wellFormed specText area v
+
+-- "calls use 1, 2, 3, 4, 6, 7"
+unfoldable pub wellFormedArgument : List ℕ → Value → Bool
+wellFormedArgument area v = wellFormed callText area v
+
+-- "A name is a kind 6 text of 1 to 64 bytes"
+unfoldable pub wellFormedName : List ℕ → Value → Bool
+wellFormedName area v = eqb (v .kind) callText && isText 1 area (v .payload)
+
+-- "a key is a kind 6 text of 0 to 64 bytes or a whole number"
+unfoldable pub wellFormedKey : List ℕ → Value → Bool
+wellFormedKey area v = eqb (v .kind) 3 || eqb (v .kind) callText && isText 0 area (v .payload)
