@@ -16,3 +16,4 @@ pub mod Binding
 pub mod Collection
 pub mod CanFill
 pub mod Examples
+pub mod Demand3

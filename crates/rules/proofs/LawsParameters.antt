@@ -1,0 +1,155 @@
+-- Laws of a list that passes 1 to 8: its positional parameters come first, and no name is that of two nameable parameters.
+-- Assumes nothing.
+use mathlib.Core.Path.{_≡_, refl, sym, ap, _∙_}
+use mathlib.Core.Bool.{Bool, true, false, cond, not, _&&_, _||_, false≢true, true≢false}
+use mathlib.Core.List.{List, [], _∷_, _++_, append-nil}
+use Prim.Native.Nat.{ℕ}
+use Rattle.rules.specs.Listing.{all, any}
+use Rattle.rules.specs.Text.{Text, bytesAt, textIn}
+use Rattle.rules.specs.Answer.{Answer, fine, _then_, ask}
+use Rattle.rules.specs.ParameterRecord.{Step, ParameterRecord, readParameters}
+use Rattle.rules.specs.Parameters.{Style, posOnly, posOrNamed, namedOnly, noMore, ParameterKind, required, optional, defaulted, args, kwargs, Act, adds, slash, bareStar, unknownCode, act, comesBefore, mayStand, nextStyle, Parameter, plain, takesPosition, takesName, positional, nameable, added, addedFrom, parametersOf}
+use Rattle.rules.specs.Lookup.{known}
+use Rattle.rules.specs.ParameterQuestions.{hasRoom, nameIsNew, askStep, askSteps, askParameters, listOf, wholeSteps, codesKnown, namesInside, defaultsRight, countsAgree}
+use Rattle.rules.proofs.LawsListing.{and-both, and-left, and-right, all-append}
+use Rattle.rules.proofs.LawsAnswer.{then-left, then-right, ask-true, fine-refuse}
+
+-- ---- the positional parameters come first
+
+abbrev pub positionalFirst : List Parameter → Bool
+positionalFirst [] = true
+positionalFirst (q ∷ qs) = cond (positional q) (positionalFirst qs) (all (λ p. not (positional p)) qs)
+
+none-first : (qs : List Parameter) → all (λ p. not (positional p)) qs ≡ true → positionalFirst qs ≡ true
+none-first [] e = refl
+none-first (q ∷ qs) e = go (positional q) e
+  where
+    go : (b : Bool) → (not b && all (λ p. not (positional p)) qs) ≡ true → cond b (positionalFirst qs) (all (λ p. not (positional p)) qs) ≡ true
+    go true e₁ = absurd (false≢true e₁)
+    go false e₁ = e₁
+
+-- after a style that takes no position no later style does
+stays-behind : (s : Style) (a : Act) → mayStand s a ≡ true → takesPosition s ≡ false → takesPosition (nextStyle s a) ≡ false
+unfolding comesBefore
+stays-behind posOnly a m e = absurd (true≢false e)
+stays-behind posOrNamed a m e = absurd (true≢false e)
+stays-behind namedOnly (adds required) m e = refl
+stays-behind namedOnly (adds optional) m e = refl
+stays-behind namedOnly (adds (defaulted v)) m e = refl
+stays-behind namedOnly (adds args) m e = refl
+stays-behind namedOnly (adds kwargs) m e = refl
+stays-behind namedOnly slash m e = absurd (false≢true m)
+stays-behind namedOnly bareStar m e = refl
+stays-behind namedOnly unknownCode m e = refl
+stays-behind noMore (adds required) m e = refl
+stays-behind noMore (adds optional) m e = refl
+stays-behind noMore (adds (defaulted v)) m e = refl
+stays-behind noMore (adds args) m e = refl
+stays-behind noMore (adds kwargs) m e = refl
+stays-behind noMore slash m e = absurd (false≢true m)
+stays-behind noMore bareStar m e = refl
+stays-behind noMore unknownCode m e = refl
+
+none-added : (area : List ℕ) (s : Style) (a : Act) (name : ℕ) → takesPosition s ≡ false → all (λ p. not (positional p)) (added area s a name) ≡ true
+unfolding positional
+none-added area s (adds k) name e = go (plain k) (takesPosition s) e
+  where
+    go : (x b : Bool) → b ≡ false → (not (x && b) && true) ≡ true
+    go true true e₁ = absurd (true≢false e₁)
+    go true false e₁ = refl
+    go false b e₁ = refl
+none-added area s slash name e = refl
+none-added area s bareStar name e = refl
+none-added area s unknownCode name e = refl
+
+module _ (A : ℕ) (area : List ℕ) where
+  -- what a fine step says: it may stand there, its name is new, and the steps after it are fine
+  may-stand : (s : Style) (before : List Parameter) (t : Step) (rest : Answer) → (askStep A area s before t then rest) ≡ fine → mayStand s (act t) ≡ true
+  unfolding askStep
+  may-stand s before t rest e =
+      ask-true 5 (mayStand s (act t)) (then-left (ask 5 (mayStand s (act t))) (ask 6 (hasRoom A before (act t)) then ask 7 (nameIsNew area s before (act t) (t .name))) (then-left (askStep A area s before t) rest e))
+
+  name-new : (s : Style) (before : List Parameter) (t : Step) (rest : Answer) → (askStep A area s before t then rest) ≡ fine → nameIsNew area s before (act t) (t .name) ≡ true
+  unfolding askStep
+  name-new s before t rest e =
+      ask-true 7 (nameIsNew area s before (act t) (t .name)) (then-right (ask 6 (hasRoom A before (act t))) (ask 7 (nameIsNew area s before (act t) (t .name))) (then-right (ask 5 (mayStand s (act t))) (ask 6 (hasRoom A before (act t)) then ask 7 (nameIsNew area s before (act t) (t .name))) (then-left (askStep A area s before t) rest e)))
+
+  none-positional : (s : Style) (before : List Parameter) (ts : List Step) → takesPosition s ≡ false → askSteps A area s before ts ≡ fine → all (λ p. not (positional p)) (addedFrom area s ts) ≡ true
+  none-positional s before [] e f = refl
+  none-positional s before (t ∷ ts) e f =
+      all-append (λ p. not (positional p)) (added area s (act t) (t .name)) (addedFrom area (nextStyle s (act t)) ts)
+      (none-added area s (act t) (t .name) e)
+      (none-positional (nextStyle s (act t)) (before ++ added area s (act t) (t .name)) ts
+      (stays-behind s (act t) (may-stand s before t (askSteps A area (nextStyle s (act t)) (before ++ added area s (act t) (t .name)) ts) f) e)
+      (then-right (askStep A area s before t) (askSteps A area (nextStyle s (act t)) (before ++ added area s (act t) (t .name)) ts) f))
+
+  positional-first : (s : Style) (before : List Parameter) (ts : List Step) → askSteps A area s before ts ≡ fine → positionalFirst (addedFrom area s ts) ≡ true
+  unfolding positional
+  positional-first s before [] f = refl
+  positional-first s before (t ∷ ts) f =
+      go (act t) (λ (s′ : Style) (b : List Parameter). positional-first s′ b ts) (then-right (askStep A area s before t) (askSteps A area (nextStyle s (act t)) (before ++ added area s (act t) (t .name)) ts) f)
+    where
+      plainly : (b : Bool) (before′ : List Parameter) → b ≡ takesPosition s → ((s′ : Style) (b′ : List Parameter) → askSteps A area s′ b′ ts ≡ fine → positionalFirst (addedFrom area s′ ts) ≡ true)
+          → askSteps A area s before′ ts ≡ fine → cond b (positionalFirst (addedFrom area s ts)) (all (λ p. not (positional p)) (addedFrom area s ts)) ≡ true
+      plainly true before′ e ih g = ih s before′ g
+      plainly false before′ e ih g = none-positional s before′ ts (sym e) g
+
+      go : (a : Act) → ((s′ : Style) (b : List Parameter) → askSteps A area s′ b ts ≡ fine → positionalFirst (addedFrom area s′ ts) ≡ true)
+          → askSteps A area (nextStyle s a) (before ++ added area s a (t .name)) ts ≡ fine
+          → positionalFirst (added area s a (t .name) ++ addedFrom area (nextStyle s a) ts) ≡ true
+      go (adds required) ih g = plainly (takesPosition s) (before ++ added area s (adds required) (t .name)) refl ih g
+      go (adds optional) ih g = plainly (takesPosition s) (before ++ added area s (adds optional) (t .name)) refl ih g
+      go (adds (defaulted v)) ih g = plainly (takesPosition s) (before ++ added area s (adds (defaulted v)) (t .name)) refl ih g
+      go (adds args) ih g = none-positional namedOnly (before ++ added area s (adds args) (t .name)) ts refl g
+      go (adds kwargs) ih g = none-positional noMore (before ++ added area s (adds kwargs) (t .name)) ts refl g
+      go slash ih g = ih posOrNamed (before ++ []) g
+      go bareStar ih g = ih namedOnly (before ++ []) g
+      go unknownCode ih g = ih s (before ++ []) g
+
+-- ---- no name is that of two nameable parameters
+
+-- each nameable parameter's name is new among those before it
+abbrev pub namesApart : List Parameter → List Parameter → Bool
+namesApart before [] = true
+namesApart before (q ∷ qs) = (not (nameable q) || not (known before (q .name .bytes))) && namesApart (before ++ (q ∷ [])) qs
+
+module _ (A : ℕ) (area : List ℕ) where
+  names-apart : (s : Style) (before : List Parameter) (ts : List Step) → askSteps A area s before ts ≡ fine → namesApart before (addedFrom area s ts) ≡ true
+  unfolding nameable textIn
+  names-apart s before [] f = refl
+  names-apart s before (t ∷ ts) f =
+      go (act t) (name-new A area s before t (askSteps A area (nextStyle s (act t)) (before ++ added area s (act t) (t .name)) ts) f)
+      (names-apart (nextStyle s (act t)) (before ++ added area s (act t) (t .name)) ts
+      (then-right (askStep A area s before t) (askSteps A area (nextStyle s (act t)) (before ++ added area s (act t) (t .name)) ts) f))
+    where
+      go : (a : Act) → nameIsNew area s before a (t .name) ≡ true
+          → namesApart (before ++ added area s a (t .name)) (addedFrom area (nextStyle s a) ts) ≡ true
+          → namesApart before (added area s a (t .name) ++ addedFrom area (nextStyle s a) ts) ≡ true
+      go (adds k) new ih =
+          and-both (not (plain k && takesName s) || not (known before (bytesAt area (t .name)))) (namesApart (before ++ added area s (adds k) (t .name)) (addedFrom area (nextStyle s (adds k)) ts)) new ih
+      go slash new ih = rw (append-nil before) at ih
+      go bareStar new ih = rw (append-nil before) at ih
+      go unknownCode new ih = rw (append-nil before) at ih
+
+-- ---- of a record that passes
+
+module _ (A : ℕ) (cells area : List ℕ) (passes : askParameters A cells area ≡ fine) where
+  pub steps-fine : askSteps A area posOnly [] (readParameters cells .steps) ≡ fine
+  unfolding askParameters
+  steps-fine =
+      let r : ParameterRecord = readParameters cells in
+      let last : Answer = ask 8 (countsAgree (listOf cells area)) in
+      let steps : Answer = askSteps A area posOnly [] (r .steps) in
+      then-left steps last
+      (then-right (ask 4 (defaultsRight area (r .steps))) (steps then last)
+      (then-right (ask 3 (namesInside area r)) (ask 4 (defaultsRight area (r .steps)) then steps then last)
+      (then-right (ask 2 (codesKnown (r .steps))) (ask 3 (namesInside area r) then ask 4 (defaultsRight area (r .steps)) then steps then last)
+      (then-right (ask 1 (wholeSteps A cells)) (ask 2 (codesKnown (r .steps)) then ask 3 (namesInside area r) then ask 4 (defaultsRight area (r .steps)) then steps then last) passes))))
+
+  pub list-positionalFirst : positionalFirst (listOf cells area) ≡ true
+  unfolding listOf parametersOf
+  list-positionalFirst = positional-first A area posOnly [] (readParameters cells .steps) steps-fine
+
+  pub list-namesApart : namesApart [] (listOf cells area) ≡ true
+  unfolding listOf parametersOf
+  list-namesApart = names-apart A area posOnly [] (readParameters cells .steps) steps-fine

@@ -1,0 +1,11 @@
+-- What is proved of the definitions: laws by subject, in the order in which they lean on each other, and demand 3.
+pub mod LawsListing
+pub mod LawsText
+pub mod LawsRecord
+pub mod LawsAnswer
+pub mod LawsParameters
+pub mod LawsPlacement
+pub mod LawsBinding
+pub mod LawsCanFill
+pub mod LawsCut
+pub mod Demand3
