@@ -238,3 +238,7 @@ module _ (A B : ℕ) (specCells specBytes callBytes : List ℕ) (P : List Value)
         foretold = foretold;
         placed = placed;
       }
+
+-- at 01's own limits
+pub demand-3-64 : (specCells specBytes callBytes : List ℕ) (P : List Value) (N : List Pair) (board : List ℕ) → Domain 64 64 specCells specBytes callBytes P N board → Demand3 64 64 specCells specBytes callBytes P N board
+demand-3-64 = demand-3 64 64

@@ -1,4 +1,5 @@
--- What is proved of the definitions: laws by subject, in the order in which they lean on each other, and demand 3.
+-- What is proved of the definitions: 01's examples, laws by subject in the order in which they lean on each other, and demand 3.
+pub mod Computed
 pub mod LawsListing
 pub mod LawsText
 pub mod LawsRecord

@@ -1,5 +1,6 @@
 -- The board (01, "Cells, texts and records", Board): "a kind and payload per parameter (0, 0 when empty; 8 and a count for *args;
 -- 9 and a count for **kwargs), then the star remainder's values, then the named remainder's pairs. Cells after these keep their contents".
+use mathlib.Core.Path.{_≡_, refl}
 use mathlib.Core.List.{List, [], _∷_, _++_}
 use Prim.Native.Nat.{ℕ, _+_, _*_, max}
 use Rattle.rules.specs.Cells.{writeEach, over}
@@ -34,3 +35,7 @@ boardAfter qs P N board = over (written qs P N) board
 -- how many cells a board has at the least: 12B, and the greater of 2A and 6 more
 unfoldable pub boardLeast : ℕ → ℕ → ℕ
 boardLeast A B = 12 * B + max (2 * A) 6
+
+pub boardLeast-64 : boardLeast 64 64 ≡ 896
+unfolding boardLeast
+boardLeast-64 = refl

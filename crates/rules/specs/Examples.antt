@@ -1,4 +1,5 @@
--- 01's twelve proved examples ("Proved examples"), on records that the encoders make, as one joint fact about collection.
+-- 01's twelve proved examples ("Proved examples"), on records that the encoders make, as one joint fact about collection. Its proof is `twelve`
+-- of proofs/.
 -- W is 01's list `water(block, /, start, minutes = 30)`, K is W with **kwargs.
 use mathlib.Core.Path.{_≡_, refl}
 use mathlib.Core.List.{List, [], _∷_, _++_}
@@ -64,12 +65,17 @@ block = record { key = record { kind = 6; payload = payloadOf 5 5 }; value = who
 abbrev pub written-out : List Value → List Pair → CallRecord
 written-out P N = record { positionals = P; named = N; starKind = 0; items = []; doubleKind = 0; entries = [] }
 
--- the board before each call: 896 cells that hold 5
+-- the board before each call
 unfoldable pub boardBefore : List ℕ
 boardBefore = replicate 896 5
 
-unfoldable pub outcome : ParameterRecord → CallRecord → Outcome
-outcome list call = collection 64 64 (encodeParameters list) specBytes (encodeCall call) callBytes boardBefore
+-- how collection ends at 64 and 64 over a board of 896 cells that hold 5; to unfold it is to unfold all that collection cites
+unfoldable pub collected : List ℕ → List ℕ → ParameterRecord → CallRecord → Outcome
+unfolding startOf sizeOf bytesAt inside isText textIn valueWidth valueCells readValue noValue specText callText wellFormed wellFormedDefault wellFormedArgument wellFormedName wellFormedKey partOf stepWidth stepCells readStep parameterLength stepCount readParameters encodeParameters pairWidth pairCells readPair headWidth readHead callLength readCall encodeCall namedIn keyIn entryIn callIn positionalsOf namedOf comesBefore act positional nameable positionalOnly parametersOf positionalOnlyCount positionalCount hasArgs hasKwargs names known wholeSteps codesKnown stepName namesInside isZero defaultsRight askStep countsAgree listOf askParameters starRemainder namedRemainder fromP slotOf place countsOf slotCells namedCells written boardAfter boardLeast lengthsRight kindsRight wellFormedPair wellFormedEntry partsWellFormed entriesDiffer namesDiffer askForm askCall askBoard textsOf namedBy namesFilled askPlaced askBinding callOf askRecords collection
+collected specBytes callBytes list call = collection 64 64 (encodeParameters list) specBytes (encodeCall call) callBytes boardBefore
+
+abbrev pub outcome : ParameterRecord → CallRecord → Outcome
+outcome list call = collected specBytes callBytes list call
 
 -- a part of the spec area, and of the call area
 abbrev pub spec : ℕ → ℕ → Part
@@ -126,22 +132,3 @@ pub record Twelve : Type 0 where
   -- (12) no parameters, no arguments: accepted
   pub nothing-asked :
       outcome noParameters (written-out [] []) ≡ accepted (record { taken = 0; defaulted = 0; star = 0; named = 0 }) boardBefore
-
-pub twelve : Twelve
-unfolding outcome boardBefore listW listK noParameters stepsW specBytes callBytes over payloadOf startOf sizeOf bytesAt inside isText textIn valueWidth valueCells readValue noValue specText callText wellFormed wellFormedDefault wellFormedArgument wellFormedName wellFormedKey partOf stepWidth stepCells readStep parameterLength stepCount readParameters encodeParameters pairWidth pairCells readPair headWidth readHead callLength readCall encodeCall namedIn keyIn entryIn callIn positionalsOf namedOf comesBefore act positional nameable positionalOnly parametersOf positionalOnlyCount positionalCount hasArgs hasKwargs names known wholeSteps codesKnown stepName namesInside isZero defaultsRight askStep countsAgree listOf askParameters starRemainder namedRemainder fromP slotOf place countsOf slotCells namedCells written boardAfter boardLeast lengthsRight kindsRight wellFormedPair wellFormedEntry partsWellFormed entriesDiffer namesDiffer askForm askCall askBoard textsOf namedBy namesFilled askPlaced askBinding callOf askRecords collection
-twelve =
-    record {
-      three-values = refl;
-      nothing-given = refl;
-      one-value = refl;
-      repeated = refl;
-      repeated-star = refl;
-      repeated-entry = refl;
-      four-values = refl;
-      positional-only-named = refl;
-      positional-only-kept = refl;
-      missing-first = refl;
-      star-first = refl;
-      whole-key = refl;
-      nothing-asked = refl;
-    }

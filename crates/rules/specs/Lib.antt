@@ -17,3 +17,4 @@ pub mod Collection
 pub mod CanFill
 pub mod Examples
 pub mod Demand3
+pub mod CutExamples

@@ -1,0 +1,47 @@
+-- 01's twelve examples, and demand 3 at work, by computation: every definition that they cite is unfolded and each side computed.
+-- Assumes nothing.
+use mathlib.Core.Path.{refl}
+use lib.Dec.{lit≤}
+use Rattle.rules.specs.Cells.{over}
+use Rattle.rules.specs.Text.{payloadOf}
+use Rattle.rules.specs.Examples.{Twelve, collected, boardBefore, listW, listK, noParameters, stepsW, specBytes, callBytes}
+use Rattle.rules.specs.CutExamples.{CutExamples, ends, fills, listM, callBytes as cutBytes}
+
+pub twelve : Twelve
+unfolding collected boardBefore listW listK noParameters stepsW specBytes callBytes over payloadOf
+twelve =
+    record {
+      three-values = refl;
+      nothing-given = refl;
+      one-value = refl;
+      repeated = refl;
+      repeated-star = refl;
+      repeated-entry = refl;
+      four-values = refl;
+      positional-only-named = refl;
+      positional-only-kept = refl;
+      missing-first = refl;
+      star-first = refl;
+      whole-key = refl;
+      nothing-asked = refl;
+    }
+
+pub cut-examples : CutExamples
+unfolding ends fills listM listK stepsW specBytes cutBytes boardBefore
+cut-examples =
+    record {
+      accepted-inside = refl;
+      accepted-foretold = refl;
+      missing-inside = refl;
+      missing-foretold = refl;
+      repeated-written = refl;
+      repeated-entry = refl;
+      repeated-foretold = refl;
+      cells-by-hand = refl;
+      accepted-domain =
+          record { list-passes = refl; values-formed = refl; pairs-formed = refl; no-name-twice = refl; few-values = lit≤ tt; few-names = lit≤ tt; room = lit≤ tt };
+      missing-domain =
+          record { list-passes = refl; values-formed = refl; pairs-formed = refl; no-name-twice = refl; few-values = lit≤ tt; few-names = lit≤ tt; room = lit≤ tt };
+      repeated-domain =
+          record { list-passes = refl; values-formed = refl; pairs-formed = refl; no-name-twice = refl; few-values = lit≤ tt; few-names = lit≤ tt; room = lit≤ tt };
+    }
