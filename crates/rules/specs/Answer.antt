@@ -1,15 +1,15 @@
--- What a question answers (01, "Questions put to a record, and the number for 'no'"): nothing against it, or a refusal's number
--- with the detail that 01 names. The first "no" of a chain of questions is the chain's.
+-- What a question answers (01, the section on the questions): there is nothing against the record, or it is refused with a number and the
+-- detail that goes with that number. In a chain of questions the first refusal is the chain's.
 use mathlib.Core.Bool.{Bool, true, false}
 use Prim.Native.Nat.{ℕ}
 use Rattle.rules.specs.Text.{Text, startOf, sizeOf}
 
--- "one area for the parameter list and one for the call"
+-- the two lent areas: the parameter list's bytes and the call's
 pub data Area : Type 0 where
   specArea : Area
   callArea : Area
 
--- "The name in a detail is that part of the spec area or of the call area"
+-- a name in a detail is handed back as a place: in which area it stands, where it starts there, how long it is
 pub record Part : Type 0 where
   pub area : Area
   pub start : ℕ
@@ -18,7 +18,7 @@ pub record Part : Type 0 where
 unfoldable pub partOf : Area → Text → Part
 partOf area t = record { area = area; start = startOf (t .payload); size = sizeOf (t .payload) }
 
--- "the detail named here, otherwise none": a name, a count, or a count with the first name
+-- what a refusal carries besides its number: nothing, a name, a count, or a count with the first name counted
 pub data Detail : Type 0 where
   none : Detail
   name : Part → Detail
@@ -30,7 +30,7 @@ pub data Answer : Type 0 where
   refuse : ℕ → Detail → Answer
 
 infixr 20 _then_
--- one question after another: the first "no" is the answer
+-- one question after another: the first refusal is the answer
 abbrev pub _then_ : Answer → Answer → Answer
 _then_ fine a = a
 _then_ (refuse n d) a = refuse n d

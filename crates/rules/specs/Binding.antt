@@ -1,4 +1,4 @@
--- Questions 15 to 24 (01, "Questions put to a record", Binding), in the order in which the Rust's `collect_slow` reports.
+-- Questions 15 to 24 (01, the questions, binding), in the order in which the Rust's `collect_slow` reports.
 use mathlib.Core.Bool.{Bool, true, false, cond, not, _&&_, _||_}
 use mathlib.Core.List.{List, [], _∷_, _++_, map}
 use Prim.Native.Nat.{ℕ, suc}
@@ -12,13 +12,13 @@ use Rattle.rules.specs.Parameters.{Parameter, Style, posOnly, posOrNamed
 use Rattle.rules.specs.Lookup.{names}
 use Rattle.rules.specs.Placement.{Slot, isUnfilled, fromP, place, starRemainder, namedRemainder}
 
--- "15 is the star value absent or iterable?"
+-- 15: whatever is given to * can be iterated
 abbrev pub starPasses : Star → Bool
 starPasses noStar = true
 starPasses (iterable vs) = true
 starPasses notIterable = false
 
--- "17 is the double star absent or a dictionary?"
+-- 17: whatever is given to ** is a dictionary
 abbrev pub doublePasses : Double → Bool
 doublePasses noDouble = true
 doublePasses (dictionary es) = true
@@ -32,7 +32,7 @@ textsOf vs = map (λ v. v .name) vs
 unfoldable pub namedBy : List Named → Parameter → Bool
 namedBy vs q = any (λ v. names (v .name .bytes) q) vs
 
--- "16 is no written name that of a nameable positional slot filled from P (detail: the parameter's name, at the lowest such index)?"
+-- 16: no slot that P fills is also named by a written argument. The detail is the name of the first parameter that is
 abbrev pub askRepeats : List Value → List Named → ℕ → List Parameter → Answer
 askRepeats P written i [] = fine
 askRepeats P written i (q ∷ qs) =
@@ -42,8 +42,8 @@ askRepeats P written i (q ∷ qs) =
 unfoldable pub namesFilled : List Value → ℕ → List Parameter → List ℕ → Bool
 namesFilled P i qs bytes = anyFrom (λ k q. fromP P k q && names bytes q) i qs
 
--- one entry, after the named values before it: "18 is the key a text? 19 is its nameable slot, or its name in the remainder, still
--- free (detail: the key)?" A slot is taken by P or by an earlier name; a name of the remainder by the same name before it
+-- one entry of the dictionary, after the named values before it. 18: its key is a text. 19: what it names is still free, a slot neither
+-- filled by P nor named before, or a name of the remainder that has not come before. The detail is the key
 abbrev pub askEntry : List Parameter → List Value → List Named → Key → Answer
 askEntry qs P before (word t) =
     cond (namesFilled P 0 qs (t .bytes) || among (t .bytes) (textsOf before)) (refuse 19 (name (partOf callArea t))) fine
@@ -53,27 +53,27 @@ abbrev pub askEntries : List Parameter → List Value → List Named → List En
 askEntries qs P before [] = fine
 askEntries qs P before (e ∷ es) = askEntry qs P before (e .key) then askEntries qs P (before ++ wordOf (e .key) (e .value)) es
 
--- "20 for positional-only, 22 for named-only, 21 otherwise"
+-- the number for a missing parameter goes by how it could have been given: 20 by position alone, 22 by name alone, 21 either way
 abbrev pub missing : Style → ℕ
 missing posOnly = 20
 missing posOrNamed = 21
 missing namedOnly = 22
 missing noMore = 22
 
--- "Then the lowest empty required parameter (detail: its name)", the parameters beside their slots
+-- 20 to 22: no required parameter's slot is empty, with the parameters beside their slots. The detail is the name of the first that is
 abbrev pub askRequired : List Parameter → List Slot → Answer
 askRequired [] ss = fine
 askRequired (q ∷ qs) [] = fine
 askRequired (q ∷ qs) (s ∷ ss) =
     cond (isRequired (q .kind) && isUnfilled s) (refuse (missing (q .style)) (name (partOf specArea (q .name)))) (askRequired qs ss)
 
--- "23 is the star remainder empty, or *args there (detail: count)?"
+-- 23: values past the positional parameters have *args to go to. The detail is how many there are
 abbrev pub askStarRemainder : Bool → List Value → Answer
 askStarRemainder true vs = fine
 askStarRemainder false [] = fine
 askStarRemainder false (v ∷ vs) = refuse 23 (count (length (v ∷ vs)))
 
--- "24 likewise for names and **kwargs (detail: count, first name)?"
+-- 24: names of no parameter have **kwargs to go to. The detail is how many there are, and the first of them
 abbrev pub askNamedRemainder : Bool → List Named → Answer
 askNamedRemainder true vs = fine
 askNamedRemainder false [] = fine

@@ -1,5 +1,6 @@
--- The board (01, "Cells, texts and records", Board): "a kind and payload per parameter (0, 0 when empty; 8 and a count for *args;
--- 9 and a count for **kwargs), then the star remainder's values, then the named remainder's pairs. Cells after these keep their contents".
+-- The board (01, cells, texts and records): two cells for each parameter's slot, both 0 for an empty one, kind 8 or 9 with a count for *args
+-- and **kwargs; behind the slots the values of the star remainder and then the pairs of the named one; nothing after that is touched.
+-- The layout rests on 01 alone.
 use mathlib.Core.Path.{_≡_, refl}
 use mathlib.Core.List.{List, [], _∷_, _++_}
 use Prim.Native.Nat.{ℕ, _+_, _*_, max}

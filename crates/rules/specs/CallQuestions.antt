@@ -1,4 +1,4 @@
--- Questions 9 to 14 (01, "Questions put to a record", call record). B is the number of values that each part of a call may have.
+-- Questions 9 to 14 (01, the questions, call record). B is the number of values that each part of a call may have.
 -- Each of 9 to 13 is put to the whole record.
 use mathlib.Core.Bool.{Bool, true, false, not, _&&_, _||_}
 use mathlib.Core.List.{List, [], _∷_, map}
@@ -12,20 +12,20 @@ use Rattle.rules.specs.Answer.{Answer, _then_, ask}
 use Rattle.rules.specs.CallRecord.{Pair, CallRecord, Head, readHead, callLength, readCall, Key, word, number, keyIn, namedIn}
 use Rattle.rules.specs.Board.{boardLeast}
 
--- "9 are p, n, s, d each at most 64 and the cells 6 + 2p + 4n + 2s + 4d?"
+-- 9: no part has more than B, and the record has just the cells that its counts call for
 unfoldable pub lengthsRight : ℕ → List ℕ → Bool
 lengthsRight B cells =
     let h : Head = readHead cells in
     leb (h .p) B && leb (h .n) B && leb (h .s) B && leb (h .d) B && eqb (length cells) (callLength h)
 
--- a star's kind and how many it has: "both kinds 0 to 2, with s or d zero unless its kind is 1"
+-- a star's kind is one of three, and only a list or dictionary, kind 1, has anything in it
 abbrev pub kindRight : ℕ → ℕ → Bool
 kindRight zero count = eqb count 0
 kindRight (suc zero) count = true
 kindRight (suc (suc zero)) count = eqb count 0
 kindRight (suc (suc (suc k))) count = false
 
--- "10 are both kinds 0 to 2, with s or d zero unless its kind is 1?"
+-- 10: that holds of both stars
 unfoldable pub kindsRight : CallRecord → Bool
 kindsRight r = kindRight (r .starKind) (length (r .items)) && kindRight (r .doubleKind) (length (r .entries))
 
@@ -35,7 +35,7 @@ wellFormedPair area p = wellFormedName area (p .key) && wellFormedArgument area 
 unfoldable pub wellFormedEntry : List ℕ → Pair → Bool
 wellFormedEntry area p = wellFormedKey area (p .key) && wellFormedArgument area (p .value)
 
--- "11 is every value, name and key well formed?"
+-- 11: everything that the record holds is well formed
 unfoldable pub partsWellFormed : List ℕ → CallRecord → Bool
 partsWellFormed area r =
     all (wellFormedArgument area) (r .positionals)
@@ -54,15 +54,15 @@ abbrev pub keysDiffer : List Key → Bool
 keysDiffer [] = true
 keysDiffer (k ∷ ks) = all (λ l. not (sameKey k l)) ks && keysDiffer ks
 
--- "12 do the keys differ?"
+-- 12: no key of the dictionary stands twice
 unfoldable pub entriesDiffer : List ℕ → CallRecord → Bool
 entriesDiffer area r = keysDiffer (map (λ p. keyIn area (p .key)) (r .entries))
 
--- "13 do the written names differ?" (the Rust's `ArgNames::new_check_unique`)
+-- 13: no name is written twice (the Rust's `ArgNames::new_check_unique`)
 unfoldable pub namesDiffer : List ℕ → CallRecord → Bool
 namesDiffer area r = differ (map (λ p. namedIn area p .name) (r .named))
 
--- "9 .. 10 .. 11 ..", which can-fill asks too
+-- 9 to 11, which can-fill asks too
 unfoldable pub askForm : ℕ → List ℕ → List ℕ → Answer
 askForm B cells area =
     let r : CallRecord = readCall cells in
@@ -74,6 +74,6 @@ askCall B cells area =
     let r : CallRecord = readCall cells in
     askForm B cells area then ask 12 (entriesDiffer area r) then ask 13 (namesDiffer area r)
 
--- "14 has the board at least 896 cells?"
+-- 14: the board is long enough for any call (896 cells at A = B = 64)
 unfoldable pub askBoard : ℕ → ℕ → List ℕ → Answer
 askBoard A B board = ask 14 (leb (boardLeast A B) (length board))

@@ -1,5 +1,5 @@
--- The call record (01, "Cells, texts and records"): "cells p, n, star kind, s, double kind, d; then p values, n pairs (name, value),
--- s values, d entries (key, value)". Its reader and its encoder alone know how many cells a pair takes.
+-- The call record (01, cells, texts and records): six cells of counts and kinds, then the written values, the written pairs, the items of the
+-- star and the entries of the double star. Its reader and its encoder alone know how many cells a pair takes.
 -- 01's own terms defined here: P, the positionals of a call, and N, its named values.
 use mathlib.Core.Bool.{Bool, true, false, cond}
 use mathlib.Core.List.{List, [], _∷_, _++_, map}
@@ -48,7 +48,7 @@ unfoldable pub readHead : List ℕ → Head
 readHead cells =
     record { p = getD cells 0 0; n = getD cells 1 0; starKind = getD cells 2 0; s = getD cells 3 0; doubleKind = getD cells 4 0; d = getD cells 5 0 }
 
--- how many cells a record with this head has: "the cells 6 + 2p + 4n + 2s + 4d"
+-- how many cells a record with this head has
 unfoldable pub callLength : Head → ℕ
 callLength h = headWidth + valueWidth * h .p + pairWidth * h .n + valueWidth * h .s + pairWidth * h .d
 
@@ -80,7 +80,7 @@ pub record Named : Type 0 where
   pub name : Text
   pub value : Value
 
--- "a key is a kind 6 text or a whole number"
+-- a key of a dictionary is a text or a whole number
 pub data Key : Type 0 where
   word : Text → Key
   number : ℕ → Key
@@ -89,13 +89,13 @@ pub record Entry : Type 0 where
   pub key : Key
   pub value : Value
 
--- "Star kind: 0 absent, 1 iterable, 2 not iterable"
+-- what is given to *: nothing, something that can be iterated with its items, or something that cannot (kinds 0, 1, 2)
 pub data Star : Type 0 where
   noStar : Star
   iterable : List Value → Star
   notIterable : Star
 
--- "Double kind: 0 absent, 1 dictionary, 2 something else"
+-- what is given to **: nothing, a dictionary with its entries, or something else (kinds 0, 1, 2)
 pub data Double : Type 0 where
   noDouble : Double
   dictionary : List Entry → Double
@@ -156,10 +156,10 @@ abbrev pub words : List Entry → List Named
 words [] = []
 words (e ∷ es) = wordOf (e .key) (e .value) ++ words es
 
--- "P is the written positionals and then the star items"
+-- P: the positionals as they are written, then the items of the star (Starlark specification, calls)
 unfoldable pub positionalsOf : Call → List Value
 positionalsOf c = c .positionals ++ itemsOf (c .star)
 
--- "N the written names and then the entries"
+-- N: the named values as they are written, then the dictionary's (Starlark specification, calls)
 unfoldable pub namedOf : Call → List Named
 namedOf c = c .named ++ words (entriesOf (c .double))

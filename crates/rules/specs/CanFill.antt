@@ -1,5 +1,5 @@
--- Can-fill, whole (01, "Collector and can-fill", the paragraph on can-fill; "can-fill [asks] 1 to 11"): it "reads p and the written
--- names only". This file mentions neither placement nor any question after 11.
+-- Can-fill, whole (01, collector and can-fill): after questions 1 to 11 it looks at how many positionals and which names are written, and at
+-- nothing else of the call. This file mentions neither placement nor any question after 11.
 use mathlib.Core.Bool.{Bool, true, false, cond, not, _&&_, _||_}
 use mathlib.Core.List.{List, [], _∷_, map}
 use Prim.Native.Nat.{ℕ, _+_}
@@ -13,20 +13,20 @@ use Rattle.rules.specs.Lookup.{names, known}
 use Rattle.rules.specs.ParameterQuestions.{askParameters, listOf}
 use Rattle.rules.specs.CallQuestions.{askForm}
 
--- how often slot i, of parameter q, is filled: "the first p positional slots are filled, then each name fills its nameable slot"
+-- how often slot i, of parameter q, is filled: once if it is positional and below p, and once for each name that is the parameter's
 unfoldable pub fillings : ℕ → List (List ℕ) → ℕ → Parameter → ℕ
 fillings p written i q = cond (positional q && ltb i p) 1 0 + tally (λ n. names n q) written
 
--- "a slot is filled twice"
+-- some slot is filled more than once
 unfoldable pub filledTwice : List Parameter → ℕ → List (List ℕ) → Bool
 filledTwice qs p written = anyFrom (λ i q. ltb 1 (fillings p written i q)) 0 qs
 
--- "a required slot stays empty"
+-- some required parameter's slot is not filled
 unfoldable pub leftEmpty : List Parameter → ℕ → List (List ℕ) → Bool
 leftEmpty qs p written = anyFrom (λ i q. isRequired (q .kind) && eqb (fillings p written i q) 0) 0 qs
 
--- "It says no if p is above the positional count without *args, a slot is filled twice, a name fits no nameable parameter without
--- **kwargs, or a required slot stays empty; otherwise yes"
+-- yes, if surplus positionals have *args to go to, no slot is filled twice, unknown names have **kwargs to go to, and no required slot is
+-- left empty
 unfoldable pub canFill : List Parameter → ℕ → List (List ℕ) → Bool
 canFill qs p written =
     (leb p (positionalCount qs) || hasArgs qs)

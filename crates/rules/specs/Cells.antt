@@ -13,6 +13,6 @@ abbrev pub writeEach : {X : Type 0} → (X → List ℕ) → List X → List ℕ
 writeEach write [] = []
 writeEach write (x ∷ xs) = write x ++ writeEach write xs
 
--- what lent cells hold after `written` was stored from cell 0: "Cells after these keep their contents"
+-- what lent cells hold after `written` was stored from cell 0 on: the cells behind it are as they were
 unfoldable pub over : List ℕ → List ℕ → List ℕ
 over written cells = written ++ drop (length written) cells

@@ -1,5 +1,5 @@
--- Collection, whole (01, "Questions put to a record": "Collection asks 1 to 24"; "A refusal returns its number and the detail named
--- here, otherwise none, and writes nothing"): from raw cells, areas and the board to an outcome and what the board then holds.
+-- Collection, whole (01, the questions; cells, texts and records, board): all of 1 to 24, from raw cells, areas and the board to an outcome and
+-- what the board then holds. A refusal writes nothing.
 use mathlib.Core.List.{List}
 use Prim.Native.Nat.{ℕ}
 use Rattle.rules.specs.Value.{Value}

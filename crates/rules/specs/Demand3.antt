@@ -101,7 +101,7 @@ module _ (A B : ℕ) (specCells specBytes callBytes : List ℕ) (P : List Value)
     pub alike : (c e : Cut) → merge (ending c) ≡ merge (ending e)
     -- 1 to 14 pass for every cut
     pub records-pass : (c : Cut) → askRecords A B specCells specBytes (cutCells c) callBytes board ≡ fine
-    -- a refused cut's number and detail are the first "no" of 15 to 24 on its own record
+    -- a refused cut's number and detail are the first refusal of 15 to 24 on its own record
     pub first-no : (c : Cut) (n : ℕ) (d : Detail) → ending c ≡ refused n d → askBinding parameters (callOf (cutCells c) callBytes) ≡ refuse n d
     -- and, from 20 on, they are read off P and N alone
     pub from-placed : (c : Cut) (n : ℕ) (d : Detail) → 20 ≤ n → ending c ≡ refused n d → askPlaced parameters P named ≡ refuse n d

@@ -1,4 +1,4 @@
--- 01's twelve proved examples ("Proved examples"), on records that the encoders make, as one joint fact about collection. Its proof is `twelve`
+-- 01's twelve proved examples, on records that the encoders make, as one joint fact about collection. Its proof is `twelve`
 -- of proofs/.
 -- W is 01's list `water(block, /, start, minutes = 30)`, K is W with **kwargs.
 use mathlib.Core.Path.{_≡_, refl}

@@ -1,4 +1,4 @@
--- Name lookup (01, "Name lookup: SymbolMap"): "The index of the nameable parameter with these bytes, or none".
+-- Name lookup (01, name lookup): which parameter a name in a call means, by its index, if it means one.
 -- 01's own term defined here: a name that is that of a parameter.
 use mathlib.Core.Bool.{Bool, true, false, cond, _&&_}
 use mathlib.Core.List.{List, [], _∷_}

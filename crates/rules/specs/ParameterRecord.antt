@@ -1,5 +1,5 @@
--- The parameter record (01, "Cells, texts and records"): "cell 0 is the function's name; then 4 cells a step: code, name, default
--- kind, default payload". Its reader and its encoder alone know how many cells a step takes.
+-- The parameter record (01, cells, texts and records): the function's name, then the steps, each a code, a name and a default. Its reader and
+-- its encoder alone know how many cells a step takes.
 use mathlib.Core.List.{List, [], _∷_, _++_}
 use Prim.Native.Nat.{ℕ, _+_, _-_, _*_, _/_}
 use lib.ListN.{length, drop, getD}

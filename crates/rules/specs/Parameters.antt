@@ -1,4 +1,4 @@
--- The parameter list (01, "Parameter list: ParametersSpecBuilder"): what each step does to the style, which parameters the steps add.
+-- The parameter list (01, parameter list): what each step does to the style, which parameters the steps add.
 -- The style starts as PosOnly, unlike in Python (function definitions) and Starlark, where a list without / is not positional-only.
 -- 01's own terms defined here: style, positional-only, positional, nameable.
 use mathlib.Core.Bool.{Bool, true, false, _&&_}
@@ -11,7 +11,7 @@ use Rattle.rules.specs.Text.{Text, textIn}
 use Rattle.rules.specs.Value.{Value}
 use Rattle.rules.specs.ParameterRecord.{Step, ParameterRecord}
 
--- "The style starts as PosOnly, then PosOrNamed, NamedOnly, NoMore"
+-- how the next parameter may be filled; the styles follow each other in this order
 pub data Style : Type 0 where
   posOnly : Style
   posOrNamed : Style
@@ -35,7 +35,7 @@ pub data ParameterKind : Type 0 where
   args : ParameterKind
   kwargs : ParameterKind
 
--- "1 required, 2 optional, 3 defaulted, 4 the / mark, 5 the bare * mark, 6 *args, 7 **kwargs": a step adds a parameter, or is a mark
+-- what a step does by its code: it adds a parameter (1 required, 2 optional, 3 defaulted, 6 *args, 7 **kwargs) or is a mark (4 /, 5 *)
 pub data Act : Type 0 where
   adds : ParameterKind → Act
   slash : Act
@@ -56,7 +56,7 @@ actOf (suc (suc (suc (suc (suc (suc (suc (suc n)))))))) v = unknownCode
 unfoldable pub act : Step → Act
 act s = actOf (s .code) (s .default)
 
--- "1, 2, 3, 7 need a style before NoMore; 4 needs PosOnly; 5 and 6 need a style before NamedOnly"
+-- which steps may stand under a style: / under the first alone, * and *args under the first two, the others under all but the last
 abbrev pub mayStand : Style → Act → Bool
 mayStand s (adds required) = comesBefore s noMore
 mayStand s (adds optional) = comesBefore s noMore
@@ -67,7 +67,7 @@ mayStand s slash = comesBefore s posOrNamed
 mayStand s bareStar = comesBefore s namedOnly
 mayStand s unknownCode = false
 
--- "Code 4 gives PosOrNamed, 5 and 6 NamedOnly, 7 NoMore"
+-- the style after a step: only the marks, *args and **kwargs change it
 abbrev pub nextStyle : Style → Act → Style
 nextStyle s (adds required) = s
 nextStyle s (adds optional) = s
@@ -111,8 +111,8 @@ takesName posOrNamed = true
 takesName namedOnly = true
 takesName noMore = false
 
--- "A parameter added under PosOnly is positional-only and not nameable; under PosOrNamed positional and nameable; under NamedOnly
--- nameable only" (Python's reference, function definitions: parameters before / are positional-only, those after * keyword-only)
+-- a plain parameter is filled by position, by name or either way, as the style says under which it was added (Python's reference, function
+-- definitions: those before / by position only, those after * by keyword only)
 unfoldable pub positional : Parameter → Bool
 positional q = plain (q .kind) && takesPosition (q .style)
 
@@ -138,7 +138,7 @@ isKwargs kwargs = true
 
 -- ---- the list
 
--- the parameter that a step adds, if it adds one: "Codes 6 and 7 take a parameter index", the marks take none
+-- the parameter that a step adds, if it adds one: *args and **kwargs have an index too, the marks have none
 abbrev pub added : List ℕ → Style → Act → ℕ → List Parameter
 added area s (adds k) name = record { kind = k; style = s; name = textIn area name } ∷ []
 added area s slash name = []

@@ -1,5 +1,5 @@
--- Placement (01, "Collector and can-fill"; Starlark specification, "Function and method calls" and "Functions"; Python's reference,
--- "Function definitions", for /): which value each parameter's slot holds, and what is left over.
+-- Placement (01, collector and can-fill; Starlark specification, functions and calls; Python's reference, function definitions, for /): which
+-- value each parameter's slot holds, and what is left over.
 -- 01's own terms defined here: star remainder, named remainder, taken, defaulted.
 use mathlib.Core.Bool.{Bool, true, false, cond, not, _&&_}
 use mathlib.Core.List.{List, [], _∷_}
@@ -13,7 +13,7 @@ use Rattle.rules.specs.CallRecord.{Named}
 use Rattle.rules.specs.Parameters.{Parameter, ParameterKind, required, optional, defaulted, args, kwargs, positional, positionalCount}
 use Rattle.rules.specs.Lookup.{names, known}
 
--- what a parameter's slot holds: nothing, a value of P or N, the parameter's default, or a remainder's count
+-- what a parameter's slot holds: nothing, a value of P or N, the parameter's default, or a remainder's count (01, board)
 pub data Slot : Type 0 where
   empty : Slot
   taken : Value → Slot
@@ -21,24 +21,27 @@ pub data Slot : Type 0 where
   starCount : ℕ → Slot
   namedCount : ℕ → Slot
 
--- "The star remainder is P past the positional count" (Starlark specification, functions: surplus positionals go to *args)
+-- the star remainder: what is left of P when each positional parameter has had one (Starlark specification, functions: *args)
 unfoldable pub starRemainder : List Parameter → List Value → List Value
 starRemainder qs P = drop (positionalCount qs) P
 
--- "The named remainder is the pairs of N naming no nameable parameter, in N's order" (there: surplus names go to **kwargs)
+-- the named remainder: what N gives to names of no parameter, in N's order (Starlark specification, functions: **kwargs)
 unfoldable pub namedRemainder : List Parameter → List Named → List Named
 namedRemainder qs N = keep (λ v. not (known qs (v .name .bytes))) N
 
--- is slot i, of parameter q, filled from P? "A positional slot below the length of P takes that value"
+-- is slot i, of parameter q, filled from P? Positional parameters come first, so the i-th of them takes the i-th value (Starlark
+-- specification, calls: positional arguments)
 unfoldable pub fromP : List Value → ℕ → Parameter → Bool
 fromP P i q = positional q && ltb i (length P)
 
--- "another nameable slot takes its partner in N": the value of the first name that is this parameter's
+-- what N gives to a parameter by its name (Starlark specification, calls: named arguments; Python's reference, function definitions: a
+-- parameter before / has no name here)
 abbrev pub partner : Parameter → List Named → Option Value
 partner q [] = none
 partner q (v ∷ vs) = cond (names (v .name .bytes) q) (some (v .value)) (partner q vs)
 
--- "otherwise the default, otherwise empty"; *args and **kwargs hold their remainder's count
+-- what a slot holds that is given nothing: its default, if it has one (Starlark specification, functions: defaults); the remainders' counts
+-- rest on 01's board
 abbrev pub otherwise : ParameterKind → ℕ → ℕ → Slot
 otherwise required stars named = empty
 otherwise optional stars named = empty
@@ -80,14 +83,14 @@ isUnfilled (fromDefault v) = false
 isUnfilled (starCount n) = false
 isUnfilled (namedCount n) = false
 
--- "It hands back four counts: taken, defaulted, star remainder, named remainder"
+-- the four counts that an accepted collection hands back; they rest on 01 alone
 pub record Counts : Type 0 where
   pub taken : ℕ
   pub defaulted : ℕ
   pub star : ℕ
   pub named : ℕ
 
--- "'Taken' counts slots of codes 1 to 3 filled from P or N, 'defaulted' those from defaults; a remainder's count is its length"
+-- counted over the slots: how many hold a value of the call, how many a default; and the remainders' lengths
 unfoldable pub countsOf : List Parameter → List Value → List Named → Counts
 countsOf qs P N =
     record {

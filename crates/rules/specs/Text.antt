@@ -1,4 +1,4 @@
--- Texts (01, "Cells, texts and records"): a text is a run of bytes in a lent area. A cell holds its payload, start × 256 + length.
+-- Texts (01, cells, texts and records): a text is a run of bytes in a lent area. A cell holds its payload, start × 256 + length.
 -- An area is the list of its bytes. 01's own terms defined here: payload, inside its area, equal texts.
 use mathlib.Core.Bool.{Bool, true, false, not, _&&_, _||_}
 use mathlib.Core.List.{List, [], _∷_}
@@ -6,7 +6,7 @@ use Prim.Native.Nat.{ℕ, _+_, _*_, _/_, _%_}
 use lib.Dec.{leb, eqb}
 use lib.ListN.{length, take, drop}
 
--- "its payload is start × 256 + length"
+-- the payload of a text
 unfoldable pub payloadOf : ℕ → ℕ → ℕ
 payloadOf start size = start * 256 + size
 
@@ -22,7 +22,7 @@ sizeOf payload = payload % 256
 unfoldable pub bytesAt : List ℕ → ℕ → List ℕ
 bytesAt area payload = take (sizeOf payload) (drop (startOf payload) area)
 
--- "start at most 65,535", and the text lies inside its area; so does an empty text that starts at the area's end
+-- the text starts within the first 65,536 bytes and all of it lies inside its area; so does an empty text that starts at the area's end
 unfoldable pub inside : List ℕ → ℕ → Bool
 inside area payload = leb (startOf payload) 65535 && leb (startOf payload + sizeOf payload) (length area)
 
@@ -30,7 +30,7 @@ inside area payload = leb (startOf payload) 65535 && leb (startOf payload + size
 unfoldable pub isText : ℕ → List ℕ → ℕ → Bool
 isText least area payload = inside area payload && leb least (sizeOf payload) && leb (sizeOf payload) 64
 
--- "Texts are equal when their bytes are"
+-- two texts are equal when they have the same bytes, wherever they stand
 abbrev pub sameBytes : List ℕ → List ℕ → Bool
 sameBytes [] [] = true
 sameBytes [] (y ∷ ys) = false

@@ -1,4 +1,4 @@
--- Values (01, "Cells, texts and records"): a kind cell and a payload cell. 01's own term defined here: well formed.
+-- Values (01, cells, texts and records): a kind cell and a payload cell. 01's own term defined here: well formed.
 use mathlib.Core.Bool.{Bool, _&&_, _||_}
 use mathlib.Core.List.{List, [], _∷_}
 use Prim.Native.Nat.{ℕ, _^_}
@@ -31,9 +31,8 @@ specText = 5
 unfoldable pub callText : ℕ
 callText = 6
 
--- "1 nothing (payload 0); 2 flag (0 or 1); 3 whole number; 4 real; 5 text in the spec area; 6 text in the call area;
--- 7 handle (below 2^32)". A whole number is the cell in two's complement and a real its bits, so any cell fits them.
--- `text` is the kind of text that is used there, `area` where its bytes lie. "Value texts have 0 to 64 bytes"
+-- does a payload fit its kind? 1 nothing, 2 a flag, 3 a whole number, 4 a real, 7 a handle of 32 bits; a whole number is the cell in two's
+-- complement and a real its bits, so any cell fits them. `text` is the kind of text that is used there, of at most 64 bytes in `area`
 unfoldable pub wellFormed : ℕ → List ℕ → Value → Bool
 wellFormed text area v =
     eqb (v .kind) 1 && eqb (v .payload) 0
@@ -43,18 +42,18 @@ wellFormed text area v =
     || eqb (v .kind) text && isText 0 area (v .payload)
     || eqb (v .kind) 7 && ltb (v .payload) (2 ^ 32)
 
--- "Defaults use 1, 2, 3, 4, 5, 7"
+-- as a default, whose texts stand in the spec area
 unfoldable pub wellFormedDefault : List ℕ → Value → Bool
 wellFormedDefault area v = wellFormed specText area v
 
--- "calls use 1, 2, 3, 4, 6, 7"
+-- as an argument of a call, whose texts stand in the call area
 unfoldable pub wellFormedArgument : List ℕ → Value → Bool
 wellFormedArgument area v = wellFormed callText area v
 
--- "A name is a kind 6 text of 1 to 64 bytes"
+-- as a name in a call: a text that is not empty
 unfoldable pub wellFormedName : List ℕ → Value → Bool
 wellFormedName area v = eqb (v .kind) callText && isText 1 area (v .payload)
 
--- "a key is a kind 6 text of 0 to 64 bytes or a whole number"
+-- as a key: a text, which may be empty, or a whole number
 unfoldable pub wellFormedKey : List ℕ → Value → Bool
 wellFormedKey area v = eqb (v .kind) 3 || eqb (v .kind) callText && isText 0 area (v .payload)
