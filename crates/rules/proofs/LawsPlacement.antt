@@ -149,7 +149,7 @@ abbrev isKnown : List Parameter → Named → Bool
 isKnown qs v = known qs (v .name .bytes)
 
 -- a name that is q's is not that of a parameter before q, where q's is new
-name-apart : (before : List Parameter) (q : Parameter) → (not (nameable q) || not (known before (q .name .bytes))) ≡ true → (b : List ℕ) → (known before b && names b q) ≡ false
+pub name-apart : (before : List Parameter) (q : Parameter) → (not (nameable q) || not (known before (q .name .bytes))) ≡ true → (b : List ℕ) → (known before b && names b q) ≡ false
 unfolding names
 name-apart before q new b = go (nameable q) new (sameBytes b (q .name .bytes)) refl
   where
@@ -166,7 +166,7 @@ name-apart before q new b = go (nameable q) new (sameBytes b (q .name .bytes)) r
     go true e false p = none-of (known before b)
     go false e s p = none-of (known before b)
 
-known-snoc : (before : List Parameter) (q : Parameter) (b : List ℕ) → known (before ++ (q ∷ [])) b ≡ (known before b || names b q)
+pub known-snoc : (before : List Parameter) (q : Parameter) (b : List ℕ) → known (before ++ (q ∷ [])) b ≡ (known before b || names b q)
 unfolding known
 known-snoc before q b = any-append (names b) before (q ∷ []) ∙ ap (λ c. any (names b) before || c) (last (names b q))
   where

@@ -9,4 +9,5 @@ pub mod LawsPlacement
 pub mod LawsBinding
 pub mod LawsCanFill
 pub mod LawsCut
+pub mod LawsFound
 pub mod Demand3

@@ -1,0 +1,10 @@
+-- What lent cells hold after some were stored at an index (01, board).
+use mathlib.Core.Bool.{cond}
+use mathlib.Core.List.{List, _++_}
+use Prim.Native.Nat.{ℕ, _+_}
+use lib.Dec.{leb}
+use lib.ListN.{length, take, drop}
+
+-- where they don't all fit, nothing is stored
+unfoldable pub stored : List ℕ → ℕ → List ℕ → List ℕ
+stored cells at xs = cond (leb (at + length xs) (length cells)) (take at cells ++ xs ++ drop (at + length xs) cells) cells

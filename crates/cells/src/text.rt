@@ -1,0 +1,80 @@
+// Texts: a run of bytes in a lent area (01, cells, texts and records).
+ghost use mathlib.Core.Path.{_≡_};
+ghost use Rattle.rules.specs.Text.{payloadOf, sameBytes};
+ghost use Rattle.cells.specs.Text.{readText, partAt};
+
+// Where a text starts in its area, and how many bytes it has: the two halves of a payload. Both always fit a payload.
+pub struct Text {
+    pub start: u16,
+    pub len: u8,
+}
+
+pub enum ReadText {
+    Is(Text),
+    Not,
+}
+
+impl Text {
+    pub fn payload(self) -> u64
+        ensures { λ r. ⌜ r ≡ payloadOf (self .start) (self .len) ⌝ }
+    {
+        (self.start as u64) * 256 + (self.len as u64)
+    }
+}
+
+// The text that a payload names, if it has `least` to 64 bytes and lies inside the area.
+pub fn read_text(area: &[u8], least: u64, payload: u64) -> ReadText
+    ensures { λ r. ⌜ r ≡ readText least (now (area .entry)) payload ⌝ }
+{
+    let start = payload / 256;
+    let len = payload % 256;
+    if 65535 < start {
+        return ReadText::Not;
+    }
+    if (area.len() as u64) < start + len {
+        return ReadText::Not;
+    }
+    if len < least {
+        return ReadText::Not;
+    }
+    if 64 < len {
+        return ReadText::Not;
+    }
+    ReadText::Is(Text {
+        start: start as u16,
+        len: len as u8,
+    })
+}
+
+// The bytes that a payload names; none where it does not lie inside the area.
+pub fn part<'a>(area: &'a [u8], payload: u64) -> &'a [u8]
+    ensures { λ r. ⌜ now r ≡ partAt (now (area .entry)) payload ⌝ }
+{
+    let start = (payload / 256) as usize;
+    let len = (payload % 256) as usize;
+    if 65535 < start {
+        return &area[..0];
+    }
+    if area.len() < start + len {
+        return &area[..0];
+    }
+    let end = start + len;
+    &area[start..end]
+}
+
+// Are two texts equal? They are when their bytes are.
+pub fn same(a: &[u8], b: &[u8]) -> bool
+    ensures { λ r. ⌜ r ≡ sameBytes (now (a .entry)) (now (b .entry)) ⌝ }
+{
+    if a.len() != b.len() {
+        return false;
+    }
+    let mut i = 0;
+    while i < a.len() {
+        if a[i] != b[i] {
+            return false;
+        }
+        i += 1;
+    }
+    true
+}
