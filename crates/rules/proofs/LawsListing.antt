@@ -23,6 +23,14 @@ pub and-both : (a b : Bool) → a ≡ true → b ≡ true → (a && b) ≡ true
 and-both true b p q = q
 and-both false b p q = p
 
+pub and-no-left : (a b : Bool) → a ≡ false → (a && b) ≡ false
+and-no-left true b e = absurd (true≢false e)
+and-no-left false b e = refl
+
+pub and-no-right : (a b : Bool) → b ≡ false → (a && b) ≡ false
+and-no-right true b e = e
+and-no-right false b e = refl
+
 pub or-left : (a b : Bool) → (a || b) ≡ false → a ≡ false
 or-left true b e = e
 or-left false b e = refl

@@ -1,0 +1,113 @@
+-- Laws of names resolved one by one: nothing is resolved at first, a name that is found fills its slot, one that is not found joins the
+-- remainder.
+-- Assumes nothing.
+use mathlib.Core.Path.{_≡_, refl, sym, ap, ap₂, subst, _∙_}
+use mathlib.Core.Bool.{Bool, true, false, cond, not, false≢true, true≢false}
+use mathlib.Core.List.{List, [], _∷_, _++_, map, append-nil}
+use mathlib.Core.Option.{Option, none, some}
+use Prim.Native.Nat.{ℕ, zero, suc, _+_, _≤_, _<_}
+use native.Mathlib.Nat.{not-suc-le-zero, zero-add}
+use native.Mathlib.Numerals.{add-one}
+use native.Mathlib.Omega.{arith}
+use borrow.Author.Tests.{eqb-true, eqb-false}
+use lib.Dec.{eqb}
+use lib.ListN.{length, take, drop, getD, set, length-set, getD-replicate, replicate}
+use lib.Seq.{getD-set-same, getD-set-other, take-suc-set, drop-drop}
+use Rattle.rules.specs.Listing.{keep}
+use Rattle.rules.specs.Value.{Value, readValue, valueWidth}
+use Rattle.rules.specs.CallRecord.{Named, Pair, readPair, namedIn}
+use Rattle.rules.specs.Parameters.{Parameter}
+use Rattle.rules.specs.Lookup.{names, known, Finding, at, unknown, findFrom, find}
+use Rattle.rules.specs.Placement.{partner, namedRemainder}
+use Rattle.rules.proofs.LawsListing.{map-append}
+use Rattle.rules.proofs.LawsParameters.{namesApart}
+use Rattle.rules.proofs.LawsFound.{isAt, isFound, known-found, names-at, orElse, partner-snoc, keep-snoc}
+use Rattle.collector.specs.Resolved.{sourceValue, namedAt, Resolved}
+
+-- a source that is not 0
+pub source-some : (cells : List ℕ) (n : ℕ) → 0 < n → sourceValue cells n ≡ some (readValue (drop n cells))
+source-some cells zero h = absurd (not-suc-le-zero h)
+source-some cells (suc n) h = refl
+
+pub source-none : (cells : List ℕ) (n : ℕ) → sourceValue cells n ≡ none → n ≡ 0
+source-none cells zero e = refl
+source-none cells (suc n) e = let z : _≡_ {A = ℕ} 0 1 = cc in absurd (omega arith)
+
+-- the value of the pair at a cell stands two cells further
+pub namedAt-value : (area cells : List ℕ) (pair : ℕ) → namedAt area cells pair .value ≡ readValue (drop (pair + 2) cells)
+unfolding namedAt namedIn readPair valueWidth
+namedAt-value area cells pair = ap readValue (drop-drop 2 pair cells)
+
+orElse-none : (o : Option Value) → orElse o none ≡ o
+orElse-none none = refl
+orElse-none (some v) = refl
+
+module _ (qs : List Parameter) (cells area : List ℕ) where
+  pub resolved-none : (sources rest : List ℕ) → ((k : ℕ) → k < length qs → getD sources k 0 ≡ 0) → Resolved qs cells area [] sources rest 0
+  unfolding namedRemainder
+  resolved-none sources rest zeros =
+      record { sources-are = λ k d h. sym (ap (sourceValue cells) (zeros k h)); rest-is = refl; in-rest = omega arith }
+
+  -- the parameter at an index is named by a pair exactly where the pair's name is found there
+  named-at : namesApart [] qs ≡ true → (b : List ℕ) (f : Finding) → find qs b ≡ f → (k : ℕ) (d : Parameter) → k < length qs → names b (getD qs k d) ≡ isAt k f
+  unfolding find
+  named-at apart b f e k d h = names-at [] 0 qs b apart k d h ∙ ap₂ isAt (zero-add k) e
+
+  known-at : (b : List ℕ) (f : Finding) → find qs b ≡ f → known qs b ≡ isFound f
+  unfolding find
+  known-at b f e = sym (known-found qs b 0) ∙ ap isFound e
+
+  module _ (apart : namesApart [] qs ≡ true) (N : List Named) (sources rest : List ℕ) (count : ℕ) (r : Resolved qs cells area N sources rest count) (pair : ℕ) where
+    -- a name that is found, of a parameter that no name before it fills
+    pub resolved-found : (i : ℕ) → find qs (namedAt area cells pair .name .bytes) ≡ at i → getD sources i 0 ≡ 0 → i < length sources
+        → Resolved qs cells area (N ++ (namedAt area cells pair ∷ [])) (set sources i (pair + 2)) rest count
+    unfolding namedRemainder
+    resolved-found i found free inside =
+        record {
+          sources-are = λ k d h. partner-snoc (getD qs k d) N (namedAt area cells pair) ∙ slot k d h;
+          rest-is =
+              keep-snoc (λ v. not (known qs (v .name .bytes))) N (namedAt area cells pair)
+              ∙ ap (λ b. keep (λ v. not (known qs (v .name .bytes))) N ++ cond (not b) (namedAt area cells pair ∷ []) []) (known-at (namedAt area cells pair .name .bytes) (at i) found)
+              ∙ append-nil (keep (λ v. not (known qs (v .name .bytes))) N)
+              ∙ r .rest-is;
+          in-rest = r .in-rest;
+        }
+      where
+        slot : (k : ℕ) (d : Parameter) → k < length qs
+            → orElse (partner (getD qs k d) N) (cond (names (namedAt area cells pair .name .bytes) (getD qs k d)) (some (namedAt area cells pair .value)) none) ≡ sourceValue cells (getD (set sources i (pair + 2)) k 0)
+        slot k d h = go (eqb i k) refl
+          where
+            named : names (namedAt area cells pair .name .bytes) (getD qs k d) ≡ eqb i k
+            named = named-at apart (namedAt area cells pair .name .bytes) (at i) found k d h
+
+            go : (b : Bool) → eqb i k ≡ b
+                → orElse (partner (getD qs k d) N) (cond (names (namedAt area cells pair .name .bytes) (getD qs k d)) (some (namedAt area cells pair .value)) none) ≡ sourceValue cells (getD (set sources i (pair + 2)) k 0)
+            go true e =
+                ap₂ orElse (r .sources-are k d h ∙ ap (λ n. sourceValue cells (getD sources n 0)) (sym (eqb-true i k e)) ∙ ap (sourceValue cells) free)
+                (ap (λ b. cond b (some (namedAt area cells pair .value)) none) (named ∙ e) ∙ ap some (namedAt-value area cells pair))
+                ∙ sym (ap (λ n. sourceValue cells (getD (set sources i (pair + 2)) n 0)) (sym (eqb-true i k e)) ∙ ap (sourceValue cells) (getD-set-same sources i (pair + 2) 0 inside) ∙ source-some cells (pair + 2) (omega arith))
+            go false e =
+                ap (λ b. orElse (partner (getD qs k d) N) (cond b (some (namedAt area cells pair .value)) none)) (named ∙ e)
+                ∙ orElse-none (partner (getD qs k d) N)
+                ∙ r .sources-are k d h
+                ∙ ap (sourceValue cells) (sym (getD-set-other sources i k (pair + 2) 0 (λ (p : k ≡ i). eqb-false i k e (sym p))))
+
+    -- a name that is not found
+    pub resolved-unknown : find qs (namedAt area cells pair .name .bytes) ≡ unknown → count < length rest
+        → Resolved qs cells area (N ++ (namedAt area cells pair ∷ [])) sources (set rest count pair) (count + 1)
+    unfolding namedRemainder
+    resolved-unknown found inside =
+        record {
+          sources-are = λ k d h.
+              partner-snoc (getD qs k d) N (namedAt area cells pair)
+              ∙ ap (λ b. orElse (partner (getD qs k d) N) (cond b (some (namedAt area cells pair .value)) none)) (named-at apart (namedAt area cells pair .name .bytes) unknown found k d h)
+              ∙ orElse-none (partner (getD qs k d) N)
+              ∙ r .sources-are k d h;
+          rest-is =
+              keep-snoc (λ v. not (known qs (v .name .bytes))) N (namedAt area cells pair)
+              ∙ ap (λ b. keep (λ v. not (known qs (v .name .bytes))) N ++ cond (not b) (namedAt area cells pair ∷ []) []) (known-at (namedAt area cells pair .name .bytes) unknown found)
+              ∙ ap (λ vs. vs ++ (namedAt area cells pair ∷ [])) (r .rest-is)
+              ∙ sym (map-append (namedAt area cells) (take count rest) (pair ∷ []))
+              ∙ ap (map (namedAt area cells)) (sym (take-suc-set rest count pair inside) ∙ ap (λ n. take n (set rest count pair)) (sym (add-one count)));
+          in-rest = simp length-set (omega arith);
+        }

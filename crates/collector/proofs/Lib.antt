@@ -1,0 +1,4 @@
+-- Laws of the collector, by subject.
+pub mod LawsIndex
+pub mod LawsResolved
+pub mod LawsAsked

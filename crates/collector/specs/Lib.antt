@@ -1,0 +1,4 @@
+-- What the collector's answers mean in the terms of `rules`, and what its inner functions find.
+pub mod Answer
+pub mod Found
+pub mod Resolved
