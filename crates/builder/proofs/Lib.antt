@@ -1,0 +1,7 @@
+-- What the proofs of several functions share.
+pub mod LawsListed
+pub mod LawsCodes
+pub mod LawsParams
+pub mod LawsSpec
+pub mod LawsRecord
+pub mod LawsBuild

@@ -1,0 +1,100 @@
+use mathlib.Core.Path.{_≡_, refl, ap, _∙_}
+use Rattle.builder.proofs.LawsParams.{Room, length-held, stored-list, styleFor-rank}
+use mathlib.Core.Path.{_≡_, refl, ap, _∙_}
+use Rattle.builder.proofs.LawsParams.{Room, stored-list, styleFor-rank}
+use Rattle.builder.specs.Params.{styleOf, stepOf, parameterOf}
+use Rattle.rules.specs.Parameters.{rank}
+use lib.ListN.{length}
+use native.Mathlib.Omega.{arith}
+use Prim.Native.Nat.{_<_}
+use mathlib.Core.Path.{_≡_, refl, ap, _∙_}
+use borrow.Author.Needs.{needs}
+use Rattle.builder.proofs.params.Parameters.push.Statement.{statement}
+use Rattle.builder.proofs.params.Parameters.push.Tie as tie
+use Rattle.builder.proofs.params.Parameters.push.Reads as reads
+use Rattle.builder.proofs.params.Parameters.push.Lts as lts
+use Rattle.builder.proofs.params.CurrentParameterStyle.number.Reads as number-reads
+
+-- src/params.rt:120:9
+mul-self : tie.Need-mul-self
+mul-self c = search needs
+
+-- src/params.rt:120:9
+element-write-self : tie.Need-element-write-self
+element-write-self c = search needs
+
+-- src/params.rt:121:27
+number-requires : tie.Need-number-requires
+number-requires c κs = search needs
+
+-- src/params.rt:121:9
+mul-self-2 : tie.Need-mul-self-2
+mul-self-2 c = search needs
+
+-- src/params.rt:121:9
+element-write-self-2 : tie.Need-element-write-self-2
+element-write-self-2 c = search needs
+
+-- src/params.rt:122:9
+mul-self-3 : tie.Need-mul-self-3
+mul-self-3 c = search needs
+
+-- src/params.rt:122:9
+element-write-self-3 : tie.Need-element-write-self-3
+element-write-self-3 c = search needs
+
+-- src/params.rt:123:9
+mul-self-4 : tie.Need-mul-self-4
+mul-self-4 c = search needs
+
+-- src/params.rt:123:9
+element-write-self-4 : tie.Need-element-write-self-4
+element-write-self-4 c = search needs
+
+-- src/params.rt:124:9
+mul-self-5 : tie.Need-mul-self-5
+mul-self-5 c = search needs
+
+-- src/params.rt:124:9
+element-write-self-5 : tie.Need-element-write-self-5
+element-write-self-5 c = search needs
+
+-- src/params.rt:125:20
+add-self : tie.Need-add-self
+add-self c = search needs
+
+-- src/params.rt:115:5
+returns : tie.Need-returns
+unfolding stepOf parameterOf
+returns c =
+    let p = c .before .args .t1 in
+    let s = c .before .args .s in
+    let held = c .before .good .0 .1 .1 in
+    let codes : length (p .codes) ≡ 64 = length-held (p .codes) (held .0 .1 .0 .1) in
+    let styles : length (p .styles) ≡ 64 = length-held (p .styles) (held .1 .0 .1 .0 .1) in
+    let names : length (p .names) ≡ 64 = length-held (p .names) (held .1 .1 .0 .1 .0 .1) in
+    let kinds : length (p .«default_kinds») ≡ 64 = length-held (p .«default_kinds») (held .1 .1 .1 .0 .1 .0 .1) in
+    let payloads : length (p .«default_payloads») ≡ 64 = length-held (p .«default_payloads») (held .1 .1 .1 .1 .0 .1 .0 .1) in
+    let room : Room p (p .len) = omega arith in
+    record
+    { len = refl
+    ; list = λ area. rw (← styleFor-rank (styleOf (c .before .args .style)), ← c .number .ensures) (stored-list area p (s .code) (c .number .result) (s .name) (stepOf s .default) room)
+    }
+
+pub push-spec : {M : Type 1} → statement M
+push-spec =
+    tie.close
+    (tie.spec
+    mul-self
+    element-write-self
+    number-requires
+    mul-self-2
+    element-write-self-2
+    mul-self-3
+    element-write-self-3
+    mul-self-4
+    element-write-self-4
+    mul-self-5
+    element-write-self-5
+    add-self
+    returns)

@@ -1,0 +1,39 @@
+use Rattle.builder.proofs.LawsSpec.{never-fine, never-refused}
+use Rattle.cells.specs.Answer.{answerOf}
+use borrow.Author.Tests.{lt-leb, le-leb}
+use Rattle.rules.specs.Answer.{ask}
+use mathlib.Core.Path.{_≡_, refl, sym, ap, _∙_}
+use borrow.Author.Needs.{needs}
+use Rattle.builder.proofs.spec.ParametersSpecBuilder.finish.Statement.{statement}
+use Rattle.builder.proofs.spec.ParametersSpecBuilder.finish.Tie as tie
+use Rattle.builder.proofs.spec.ParametersSpecBuilder.finish.Reads as reads
+use Rattle.builder.proofs.spec.ParametersSpecBuilder.finish.Lts as lts
+use Rattle.builder.proofs.spec.ParametersSpec.refused.Reads as refused-reads
+
+-- src/spec.rt:283:13
+refused-requires : tie.Need-refused-requires
+refused-requires c κs = search needs
+
+-- src/spec.rt:283:13
+returns : tie.Need-returns
+returns c =
+    let b = c .before .before .before .args .self in
+    let none = c .refused .ensures in
+    record
+    { answer = ap answerOf (none .answer) ∙ sym (ap (ask 8) (lt-leb (b .«positional_only») (b .positional) (c .before .if1 .taken)))
+    ; fine = λ e. never-fine 8 (sym (none .answer) ∙ e)
+    ; refused = λ n e. none .none
+    }
+
+-- src/spec.rt:279:5
+returns-2 : tie.Need-returns-2
+returns-2 c =
+    let b = c .before .before .before .args .self in
+    record
+    { answer = sym (ap (ask 8) (le-leb (b .«positional_only») (b .positional) (c .before .if1 .left)))
+    ; fine = λ e. refl
+    ; refused = λ n e. never-refused n e
+    }
+
+pub finish-spec : {M : Type 1} → statement M
+finish-spec = tie.close (tie.spec refused-requires returns returns-2)

@@ -1,0 +1,111 @@
+-- What a step of the builder and its end promise (01, "Parameter list", and questions 5 to 8), for every state of the builder.
+use mathlib.Core.List.{List, [], _++_}
+use mathlib.Core.Option.{Option, none, some}
+use mathlib.Core.Path.{_≡_}
+use Prim.Native.Nat.{ℕ, _+_, _≤_}
+use lib.Dec.{leb}
+use Rattle.rules.specs.Answer.{Answer as RuleAnswer, fine, refuse, ask, none as noDetail}
+use Rattle.rules.specs.ParameterRecord.{Step as RecordStep}
+use Rattle.rules.specs.Parameters.{Style, posOnly, posOrNamed, namedOnly, noMore, Parameter, act, nextStyle, added, positionalOnlyCount, positionalCount, argsIndex, kwargsIndex}
+use Rattle.rules.specs.ParameterQuestions.{askStep}
+use Rattle.cells.specs.Answer.{answerOf}
+use Rattle.builder.specs.Params.{styleOf, parametersIn}
+use Rattle.builder.specs.declared.params.CurrentParameterStyle.{CurrentParameterStyle}
+use Rattle.builder.specs.declared.spec.Index.{Index}
+use Rattle.builder.specs.declared.spec.Index.the-variants.{At, Absent}
+use Rattle.cells.specs.declared.answer.Answer.{Answer}
+use Rattle.cells.specs.declared.answer.Answer.the-variants.{Fine, Refused}
+use Rattle.builder.specs.declared.spec.ParametersSpecBuilder.{ParametersSpecBuilder}
+use Rattle.builder.specs.declared.spec.Stepped.{Stepped}
+use Rattle.builder.specs.declared.spec.ParametersSpec.{ParametersSpec}
+use Rattle.builder.specs.declared.spec.Finished.{Finished}
+
+abbrev pub indexOf : Index → Option ℕ
+indexOf (At i) = some i
+indexOf Absent = none
+
+-- the answers that hand back the state as it was, and the state under another style
+abbrev pub refusedBy : ℕ → ParametersSpecBuilder → Stepped
+refusedBy n b = record { answer = Refused n; builder = b }
+
+abbrev pub underStyle : CurrentParameterStyle → ParametersSpecBuilder → Stepped
+underStyle style b =
+    record
+    { answer = Fine
+    ; builder =
+          record
+          { params = b .params
+          ; «positional_only» = b .«positional_only»
+          ; positional = b .positional
+          ; «current_style» = style
+          ; args = b .args
+          ; kwargs = b .kwargs
+          }
+    }
+
+-- the builder's parameters as a list of `rules`
+abbrev pub listOfBuilder : List ℕ → ParametersSpecBuilder → List Parameter
+listOfBuilder area b = parametersIn area (b .params)
+
+-- what the style says of the parameters so far: under PosOnly all are positional-only, before NamedOnly all are positional and
+-- there is no *args, before NoMore there is no **kwargs
+abbrev pub SoFar : Style → ParametersSpecBuilder → Type 0
+SoFar posOnly b =
+    (b .«positional_only» ≡ b .params .len)
+    × (b .positional ≡ b .params .len)
+    × (b .args ≡ Absent)
+    × (b .kwargs ≡ Absent)
+SoFar posOrNamed b = (b .positional ≡ b .params .len) × (b .args ≡ Absent) × (b .kwargs ≡ Absent)
+SoFar namedOnly b = b .kwargs ≡ Absent
+SoFar noMore b = Unit
+
+-- the state is one that steps lead to: its counts and indices are those of its list
+pub record Built (area : List ℕ) (b : ParametersSpecBuilder) : Type 0 where
+  pub room : b .params .len ≤ 64
+  pub positionalOnly : b .«positional_only» ≡ positionalOnlyCount (listOfBuilder area b)
+  pub positional : b .positional ≡ positionalCount (listOfBuilder area b)
+  pub args : indexOf (b .args) ≡ argsIndex (listOfBuilder area b)
+  pub kwargs : indexOf (b .kwargs) ≡ kwargsIndex (listOfBuilder area b)
+  pub sofar : SoFar (styleOf (b .«current_style»)) b
+
+-- the builder without a parameter
+pub record Empty (b : ParametersSpecBuilder) : Type 0 where
+  pub style : styleOf (b .«current_style») ≡ posOnly
+  pub list : (area : List ℕ) → listOfBuilder area b ≡ []
+  pub built : (area : List ℕ) → Built area b
+
+-- a step: questions 5 to 7, the state as it was where one says no, and otherwise the next style and the parameter added
+pub record Stepping (area : List ℕ) (b : ParametersSpecBuilder) (t : RecordStep) (r : Stepped) : Type 0 where
+  pub answer : answerOf (r .answer) ≡ askStep 64 area (styleOf (b .«current_style»)) (listOfBuilder area b) t
+  pub refused : (n : ℕ) → r .answer ≡ Refused n → r .builder ≡ b
+  pub style : r .answer ≡ Fine → styleOf (r .builder .«current_style») ≡ nextStyle (styleOf (b .«current_style»)) (act t)
+  pub list
+    : r .answer ≡ Fine
+    → listOfBuilder area (r .builder)
+    ≡ listOfBuilder area b ++ added area (styleOf (b .«current_style»)) (act t) (t .name)
+  pub built : Built area b → Built area (r .builder)
+
+-- a list that is refused has no parameter
+pub record NoList (n : ℕ) (r : Finished) : Type 0 where
+  pub answer : r .answer ≡ Refused n
+  pub none : r .list .params .len ≡ 0
+
+-- the list of a state, with its counts and indices
+abbrev pub finished : ParametersSpecBuilder → ParametersSpec
+finished b =
+    record
+    { params = b .params
+    ; indices =
+          record
+          { «num_positional_only» = b .«positional_only»
+          ; «num_positional» = b .positional
+          ; args = b .args
+          ; kwargs = b .kwargs
+          }
+    }
+
+-- the end: question 8, and the list
+pub record Finishing (b : ParametersSpecBuilder) (r : Finished) : Type 0 where
+  pub answer : answerOf (r .answer) ≡ ask 8 (leb (b .«positional_only») (b .positional))
+  pub fine : r .answer ≡ Fine → r .list ≡ finished b
+  pub refused : (n : ℕ) → r .answer ≡ Refused n → r .list .params .len ≡ 0

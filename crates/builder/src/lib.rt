@@ -1,0 +1,65 @@
+// The parameter list (01, "Parameter list: `ParametersSpecBuilder`"): from a parameter record to the finished list, questions 1 to 8.
+// Reworked from starlark 0.14.2, src/eval/runtime/params/spec.rs, Apache-2.0.
+use record::codes_known;
+use record::defaults_right;
+use record::names_inside;
+use record::step_at;
+use record::step_count;
+use record::whole_steps;
+use cells::answer::Answer;
+use spec::Finished;
+use spec::ParametersSpec;
+use spec::ParametersSpecBuilder;
+use spec::Stepped;
+
+ghost use Rattle.builder.specs.Build.{Building, Taking};
+
+pub mod params;
+pub mod record;
+pub mod spec;
+
+// The list that a parameter record describes: 1 to 4 are each put to the whole record, 5 to 7 step by step, 8 at the end.
+pub fn build(cells: &[u64], area: &[u8]) -> Finished
+    ensures { λ r. ⌜ Building (now (cells .entry)) (now (area .entry)) r ⌝ }
+{
+    if !whole_steps(cells) {
+        return ParametersSpec::refused(1);
+    }
+    if !codes_known(cells) {
+        return ParametersSpec::refused(2);
+    }
+    if !names_inside(cells, area) {
+        return ParametersSpec::refused(3);
+    }
+    if !defaults_right(cells, area) {
+        return ParametersSpec::refused(4);
+    }
+    let taken = take_steps(cells, area);
+    let answer = taken.answer;
+    match answer {
+        Answer::Refused(question) => ParametersSpec::refused(question),
+        Answer::Fine => taken.builder.finish(),
+    }
+}
+
+// All the steps of a record, from the builder without a parameter, up to the first that is refused.
+fn take_steps(cells: &[u64], area: &[u8]) -> Stepped
+    ensures { λ r. ⌜ Taking (now (cells .entry)) (now (area .entry)) r ⌝ }
+{
+    let m = step_count(cells);
+    let mut builder = ParametersSpecBuilder::new();
+    let mut i = 0;
+    while i < m {
+        let stepped = builder.step(area, step_at(cells, i));
+        let answer = stepped.answer;
+        let Answer::Fine = answer else {
+            return stepped;
+        };
+        builder = stepped.builder;
+        i += 1;
+    }
+    Stepped {
+        answer: Answer::Fine,
+        builder,
+    }
+}

@@ -1,0 +1,185 @@
+// The parameters of a list, in the order in which they occur (01, "Parameter list"), as plain numbers, so that a search can be lent
+// the columns that it reads. Reworked from starlark 0.14.2, src/eval/runtime/params/spec.rs (CurrentParameterStyle, and the
+// params of ParametersSpecBuilder), Apache-2.0.
+use cells::text::same;
+
+ghost use mathlib.Core.Path.{_≡_};
+ghost use mathlib.Core.Bool.{cond, not, _||_};
+ghost use Prim.Native.Nat.{_+_, _≤_, _<_};
+ghost use Rattle.rules.specs.Text.{bytesAt};
+ghost use Rattle.rules.specs.Parameters.{rank, takesName, takesPosition, comesBefore, posOrNamed};
+ghost use Rattle.rules.specs.Lookup.{known};
+ghost use Rattle.builder.specs.Params.{styleOf, mayBeNamed, parametersIn, Pushed};
+
+// The most parameters that a list can hold.
+pub const CAPACITY: usize = 64;
+
+// How a parameter that is added now can be filled.
+pub enum CurrentParameterStyle {
+    // By position only.
+    PosOnly,
+    // By position or by name.
+    PosOrNamed,
+    // By name only.
+    NamedOnly,
+    // No more parameters.
+    NoMore,
+}
+
+// One step of a parameter record: its four cells.
+pub struct Step {
+    pub code: u64,
+    pub name: u64,
+    pub default_kind: u64,
+    pub default_payload: u64,
+}
+
+// The parameters, a column for each thing that is kept of one: the code of the step that added it (1, 2, 3, 6 or 7), the number of
+// its style (0, 1 or 2), its name's payload, and the two cells of its default.
+pub struct Parameters {
+    pub codes: [u64; CAPACITY],
+    pub styles: [u64; CAPACITY],
+    pub names: [u64; CAPACITY],
+    pub default_kinds: [u64; CAPACITY],
+    pub default_payloads: [u64; CAPACITY],
+    pub len: usize,
+}
+
+impl CurrentParameterStyle {
+    pub fn number(self) -> u64
+        ensures { λ r. ⌜ r ≡ rank (styleOf self) ⌝ }
+    {
+        match self {
+            CurrentParameterStyle::PosOnly => 0,
+            CurrentParameterStyle::PosOrNamed => 1,
+            CurrentParameterStyle::NamedOnly => 2,
+            CurrentParameterStyle::NoMore => 3,
+        }
+    }
+
+    pub fn takes_name(self) -> bool
+        ensures { λ r. ⌜ r ≡ takesName (styleOf self) ⌝ }
+    {
+        match self {
+            CurrentParameterStyle::PosOnly => false,
+            CurrentParameterStyle::PosOrNamed => true,
+            CurrentParameterStyle::NamedOnly => true,
+            CurrentParameterStyle::NoMore => false,
+        }
+    }
+
+    // How many are positional-only once a parameter at index i is added: `count` were so before it.
+    pub(crate) fn positional_only(self, i: usize, count: usize) -> usize
+        requires { ⌜ i < 64 ⌝ }
+        ensures { λ r. ⌜ r ≡ cond (comesBefore (styleOf self) posOrNamed) (i + 1) count ⌝ }
+    {
+        match self {
+            CurrentParameterStyle::PosOnly => i + 1,
+            CurrentParameterStyle::PosOrNamed => count,
+            CurrentParameterStyle::NamedOnly => count,
+            CurrentParameterStyle::NoMore => count,
+        }
+    }
+
+    // How many are positional then.
+    pub(crate) fn positional(self, i: usize, count: usize) -> usize
+        requires { ⌜ i < 64 ⌝ }
+        ensures { λ r. ⌜ r ≡ cond (takesPosition (styleOf self)) (i + 1) count ⌝ }
+    {
+        match self {
+            CurrentParameterStyle::PosOnly => i + 1,
+            CurrentParameterStyle::PosOrNamed => i + 1,
+            CurrentParameterStyle::NamedOnly => count,
+            CurrentParameterStyle::NoMore => count,
+        }
+    }
+}
+
+// Can a parameter with this code and this number of a style be named in a call?
+pub fn nameable(code: u64, style: u64) -> bool
+    ensures { λ r. ⌜ r ≡ mayBeNamed code style ⌝ }
+{
+    match code {
+        1..=3 => match style {
+            1..=2 => true,
+            _ => false,
+        },
+        _ => false,
+    }
+}
+
+// The bytes that a payload names, as far as the area goes.
+pub fn bytes_at<'a>(area: &'a [u8], payload: u64) -> &'a [u8]
+    ensures { λ r. ⌜ now r ≡ bytesAt (now (area .entry)) payload ⌝ }
+{
+    let start = (payload / 256) as usize;
+    let len = (payload % 256) as usize;
+    if area.len() < start {
+        return &area[..0];
+    }
+    if area.len() - start < len {
+        return &area[start..];
+    }
+    let end = start + len;
+    &area[start..end]
+}
+
+impl Parameters {
+    pub fn new() -> Self
+        ensures { λ r. ⌜ r .len ≡ 0 ⌝ }
+    {
+        Self {
+            codes: [0; CAPACITY],
+            styles: [0; CAPACITY],
+            names: [0; CAPACITY],
+            default_kinds: [0; CAPACITY],
+            default_payloads: [0; CAPACITY],
+            len: 0,
+        }
+    }
+
+    // One more parameter at the end.
+    pub(crate) fn push(mut self, style: CurrentParameterStyle, s: Step) -> Self
+        requires { ⌜ self .len < 64 ⌝ }
+        ensures { λ r. ⌜ Pushed self style s r ⌝ }
+    {
+        let at = self.len;
+        self.codes[at] = s.code;
+        self.styles[at] = style.number();
+        self.names[at] = s.name;
+        self.default_kinds[at] = s.default_kind;
+        self.default_payloads[at] = s.default_payload;
+        self.len = at + 1;
+        self
+    }
+
+    // Is the name of a parameter that is added under this style new among the nameable ones, if it has to be?
+    pub(crate) fn name_is_new(self, area: &[u8], style: CurrentParameterStyle, name: u64) -> bool
+        requires { ⌜ self .len ≤ 64 ⌝ }
+        ensures { λ r. ⌜ r ≡ not (takesName (styleOf style)) || not (known (parametersIn (now (area .entry)) self) (bytesAt (now (area .entry)) name)) ⌝ }
+    {
+        if style.takes_name() {
+            !self.known(area, bytes_at(area, name))
+        } else {
+            true
+        }
+    }
+
+    // Is there a nameable parameter with these bytes?
+    fn known(self, area: &[u8], bytes: &[u8]) -> bool
+        requires { ⌜ self .len ≤ 64 ⌝ }
+        ensures { λ r. ⌜ r ≡ known (parametersIn (now (area .entry)) self) (now (bytes .entry)) ⌝ }
+    {
+        let mut i = 0;
+        while i < self.len {
+            if nameable(self.codes[i], self.styles[i]) {
+                let name = self.names[i];
+                if same(bytes, bytes_at(area, name)) {
+                    return true;
+                }
+            }
+            i += 1;
+        }
+        false
+    }
+}
