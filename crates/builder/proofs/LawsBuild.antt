@@ -30,56 +30,56 @@ use Rattle.builder.proofs.LawsSpec.{never-fine, never-refused}
 -- from step i on, in the state b: as many questions and parameters as of the whole record
 pub record Left (cells area : List ℕ) (m : ℕ) (b : ParametersSpecBuilder) (i : ℕ) : Type 0 where
   pub asks
-    : askSteps 64 area posOnly [] (readParameters cells .steps)
-    ≡ askSteps 64 area (styleOf (b .«current_style»)) (listOfBuilder area b) (listed (stepAt cells) i (m - i))
+      : askSteps 64 area posOnly [] (readParameters cells .steps)
+      ≡ askSteps 64 area (styleOf (b .«current_style»)) (listOfBuilder area b) (listed (stepAt cells) i (m - i))
   pub list
-    : listOf cells area
-    ≡ listOfBuilder area b ++ addedFrom area (styleOf (b .«current_style»)) (listed (stepAt cells) i (m - i))
+      : listOf cells area
+      ≡ listOfBuilder area b ++ addedFrom area (styleOf (b .«current_style»)) (listed (stepAt cells) i (m - i))
   pub built : Built area b
 
 module _ (cells area : List ℕ) (m : ℕ) where
   pub left-start : (b : ParametersSpecBuilder) → m ≡ stepCount cells → Empty b → Left cells area m b 0
   unfolding listOf parametersOf
   left-start b e h =
-      record
-      { asks = rw (h .style, h .list area, sub-zero, e, steps-listed)
-      ; list = rw (h .style, h .list area, sub-zero, e, steps-listed)
-      ; built = h .built area
+      record {
+        asks = rw (h .style, h .list area, sub-zero, e, steps-listed);
+        list = rw (h .style, h .list area, sub-zero, e, steps-listed);
+        built = h .built area;
       }
 
   module _ (b : ParametersSpecBuilder) (i : ℕ) (left : Left cells area m b i) where
     pub left-end : m ≤ i → Taking cells area (record { answer = Fine; builder = b })
     left-end h =
-        record
-        { answer = sym (left .asks ∙ rw (listed-end (stepAt cells) i m h))
-        ; list = λ e. sym (left .list ∙ rw (listed-end (stepAt cells) i m h) (append-nil (listOfBuilder area b)))
-        ; built = left .built
+        record {
+          answer = sym (left .asks ∙ rw (listed-end (stepAt cells) i m h));
+          list = λ e. sym (left .list ∙ rw (listed-end (stepAt cells) i m h) (append-nil (listOfBuilder area b)));
+          built = left .built;
         }
 
     module _ (h : i < m) (t : RecordStep) (e : t ≡ stepAt cells i) (r : Stepped) (s : Stepping area b t r) where
       -- the questions and the parameters of step i and of those after it
       asks-next
-        : askSteps 64 area posOnly [] (readParameters cells .steps)
-        ≡ answerOf (r .answer)
-        then askSteps 64 area (nextStyle (styleOf (b .«current_style»)) (act t))
-        (listOfBuilder area b ++ added area (styleOf (b .«current_style»)) (act t) (t .name))
-        (listed (stepAt cells) (i + 1) (m - (i + 1)))
+          : askSteps 64 area posOnly [] (readParameters cells .steps)
+          ≡ answerOf (r .answer)
+          then askSteps 64 area (nextStyle (styleOf (b .«current_style»)) (act t))
+          (listOfBuilder area b ++ added area (styleOf (b .«current_style»)) (act t) (t .name))
+          (listed (stepAt cells) (i + 1) (m - (i + 1)))
       asks-next = left .asks ∙ rw (listed-next (stepAt cells) i m h, ← e, ← s .answer)
 
       pub left-stop : (n : ℕ) → r .answer ≡ Refused n → Taking cells area r
       left-stop n a =
-          record
-          { answer = rw a (sym (asks-next ∙ rw a))
-          ; list = λ f. never-fine n (sym a ∙ f)
-          ; built = s .built (left .built)
+          record {
+            answer = rw a (sym (asks-next ∙ rw a));
+            list = λ f. never-fine n (sym a ∙ f);
+            built = s .built (left .built);
           }
 
       pub left-next : r .answer ≡ Fine → Left cells area m (r .builder) (i + 1)
       left-next a =
-          record
-          { asks = asks-next ∙ rw (a, ← s .style a, ← s .list a)
-          ; list = left .list ∙ rw (listed-next (stepAt cells) i m h, ← e, ← s .style a, s .list a, append-assoc)
-          ; built = s .built (left .built)
+          record {
+            asks = asks-next ∙ rw (a, ← s .style a, ← s .list a);
+            list = left .list ∙ rw (listed-next (stepAt cells) i m h, ← e, ← s .style a, s .list a, append-assoc);
+            built = s .built (left .built);
           }
 
 -- ---- questions 1 to 8
@@ -87,10 +87,10 @@ module _ (cells area : List ℕ) (m : ℕ) where
 module _ (cells area : List ℕ) where
   pub refused-list : (n : ℕ) (r : Finished) → NoList n r → refuse n noDetail ≡ askParameters 64 cells area → Building cells area r
   refused-list n r none e =
-      record
-      { answer = ap answerOf (none .answer) ∙ e
-      ; fine = λ f. never-fine n (sym (none .answer) ∙ f)
-      ; refused = λ k f. none .none
+      record {
+        answer = ap answerOf (none .answer) ∙ e;
+        fine = λ f. never-fine n (sym (none .answer) ∙ f);
+        refused = λ k f. none .none;
       }
 
   pub ask-1 : wholeSteps 64 cells ≡ false → refuse 1 noDetail ≡ askParameters 64 cells area
@@ -121,32 +121,32 @@ module _ (cells area : List ℕ) where
           pub ask-8 : (r : Finished) → t .answer ≡ Fine → Finishing (t .builder) r → Building cells area r
           unfolding askParameters countsAgree
           ask-8 r e end =
-              record
-              { answer =
+              record {
+                answer =
                     end .answer
                     ∙ sym
-                    (rw
-                    ( one
-                    , two
-                    , three
-                    , four
-                    , ← taking .answer
-                    , e
-                    , ← taking .list e
-                    , ← taking .built .positionalOnly
-                    , ← taking .built .positional
-                    ))
-              ; fine = λ f. rw (end .fine f, ← taking .list e) is-list
-              ; refused = end .refused
+                    (rw (
+                      one,
+                      two,
+                      three,
+                      four,
+                      ← taking .answer,
+                      e,
+                      ← taking .list e,
+                      ← taking .built .positionalOnly,
+                      ← taking .built .positional,
+                    ));
+                fine = λ f. rw (end .fine f, ← taking .list e) is-list;
+                refused = end .refused;
               }
             where
-            is-list : IsList area (finished (t .builder)) (listOfBuilder area (t .builder))
-            is-list =
-                record
-                { room = taking .built .room
-                ; parameters = refl
-                ; positionalOnly = taking .built .positionalOnly
-                ; positional = taking .built .positional
-                ; args = taking .built .args
-                ; kwargs = taking .built .kwargs
-                }
+              is-list : IsList area (finished (t .builder)) (listOfBuilder area (t .builder))
+              is-list =
+                  record {
+                    room = taking .built .room;
+                    parameters = refl;
+                    positionalOnly = taking .built .positionalOnly;
+                    positional = taking .built .positional;
+                    args = taking .built .args;
+                    kwargs = taking .built .kwargs;
+                  }

@@ -54,9 +54,9 @@ module _ (v : Value) where
   pub code-4 : (P : ℕ → Type 0) → P 4 → P 5 → P 6 → P 7 → ((n : ℕ) → actOf n v ≡ unknownCode → P n) → (n : ℕ) → 4 ≤ n → P n
   code-4 P a b c d none n l = split (decLe 8 n)
     where
-    split : Dec (8 ≤ n) → P n
-    split (yes h) = none n (code-8 n v h)
-    split (no h) = code-7 P a b c d n l (omega arith)
+      split : Dec (8 ≤ n) → P n
+      split (yes h) = none n (code-8 n v h)
+      split (no h) = code-7 P a b c d n l (omega arith)
 
   -- ---- codes 1 to 3 are plain, and no other
 
@@ -82,9 +82,9 @@ module _ (v : Value) where
   pub isCode-7 : (code : ℕ) → 1 ≤ code → code < 8 → isCode (actOf code v) ≡ true
   isCode-7 code l u = split (decLe 4 code)
     where
-    split : Dec (4 ≤ code) → isCode (actOf code v) ≡ true
-    split (yes h) = code-7 (λ n. isCode (actOf n v) ≡ true) refl refl refl refl code h u
-    split (no h) = code-3 (λ n. isCode (actOf n v) ≡ true) refl refl refl code l (omega arith)
+      split : Dec (4 ≤ code) → isCode (actOf code v) ≡ true
+      split (yes h) = code-7 (λ n. isCode (actOf n v) ≡ true) refl refl refl refl code h u
+      split (no h) = code-3 (λ n. isCode (actOf n v) ≡ true) refl refl refl code l (omega arith)
 
   pub hasName-3 : (code : ℕ) → 1 ≤ code → code < 4 → hasName (actOf code v) ≡ true
   hasName-3 = code-3 (λ n. hasName (actOf n v) ≡ true) refl refl refl

@@ -48,39 +48,39 @@ module _ {X : Type 0} where
   snoc-same d e = rw (d, e)
 
   pub listed-same
-    : (at to : ℕ → X) (i count : ℕ)
-    → ((j : ℕ) → i ≤ j → j < i + count → at j ≡ to j)
-    → listed at i count ≡ listed to i count
+      : (at to : ℕ → X) (i count : ℕ)
+      → ((j : ℕ) → i ≤ j → j < i + count → at j ≡ to j)
+      → listed at i count ≡ listed to i count
   listed-same at to i zero h = refl
   listed-same at to i (suc count) h =
       let rest : listed at (suc i) count ≡ listed to (suc i) count =
-              listed-same at to (suc i) count (λ j l u. h j (omega arith) (omega arith)) in
+      listed-same at to (suc i) count (λ j l u. h j (omega arith) (omega arith)) in
       rw (h i (omega arith) (omega arith), rest)
 
   pub tally-snoc : (test : X → Bool) (xs : List X) (x : X) → tally test (xs ++ x ∷ []) ≡ cond (test x) (tally test xs + 1) (tally test xs)
   tally-snoc test [] x = refl
   tally-snoc test (y ∷ ys) x = go (test y) (test x) (tally-snoc test ys x)
     where
-    go : (a b : Bool) → tally test (ys ++ x ∷ []) ≡ cond b (tally test ys + 1) (tally test ys) → cond a (suc (tally test (ys ++ x ∷ []))) (tally test (ys ++ x ∷ [])) ≡ cond b (cond a (suc (tally test ys)) (tally test ys) + 1) (cond a (suc (tally test ys)) (tally test ys))
-    go true true e = rw e (omega arith)
-    go true false e = rw e
-    go false true e = e
-    go false false e = e
+      go : (a b : Bool) → tally test (ys ++ x ∷ []) ≡ cond b (tally test ys + 1) (tally test ys) → cond a (suc (tally test (ys ++ x ∷ []))) (tally test (ys ++ x ∷ [])) ≡ cond b (cond a (suc (tally test ys)) (tally test ys) + 1) (cond a (suc (tally test ys)) (tally test ys))
+      go true true e = rw e (omega arith)
+      go true false e = rw e
+      go false true e = e
+      go false false e = e
 
   pub first-snoc
-    : (test : X → Bool) (i : ℕ) (xs : List X) (x : X)
-    → firstFrom test i (xs ++ x ∷ []) ≡ orFirst (firstFrom test i xs) (test x) (i + length xs)
+      : (test : X → Bool) (i : ℕ) (xs : List X) (x : X)
+      → firstFrom test i (xs ++ x ∷ []) ≡ orFirst (firstFrom test i xs) (test x) (i + length xs)
   first-snoc test i [] x = go (test x)
     where
-    go : (b : Bool) → cond b (some i) none ≡ orFirst none b (i + 0)
-    go true = rw (add-zero i)
-    go false = refl
+      go : (b : Bool) → cond b (some i) none ≡ orFirst none b (i + 0)
+      go true = rw (add-zero i)
+      go false = refl
   first-snoc test i (y ∷ ys) x = go (test y) (first-snoc test (suc i) ys x)
     where
-    go : (a : Bool) → firstFrom test (suc i) (ys ++ x ∷ []) ≡ orFirst (firstFrom test (suc i) ys) (test x) (suc i + length ys)
-      → cond a (some i) (firstFrom test (suc i) (ys ++ x ∷ [])) ≡ orFirst (cond a (some i) (firstFrom test (suc i) ys)) (test x) (i + suc (length ys))
-    go true e = refl
-    go false e = e ∙ rw (suc-add, add-suc)
+      go : (a : Bool) → firstFrom test (suc i) (ys ++ x ∷ []) ≡ orFirst (firstFrom test (suc i) ys) (test x) (suc i + length ys)
+          → cond a (some i) (firstFrom test (suc i) (ys ++ x ∷ [])) ≡ orFirst (cond a (some i) (firstFrom test (suc i) ys)) (test x) (i + suc (length ys))
+      go true e = refl
+      go false e = e ∙ rw (suc-add, add-suc)
 
 -- ---- a loop over the list: what is left from index i on
 

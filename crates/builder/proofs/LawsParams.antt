@@ -29,10 +29,10 @@ styleFor-rank noMore = refl
 pub plain-any : (code : ℕ) (v w : Value) → plain (kindFor (actOf code v)) ≡ plain (kindFor (actOf code w))
 plain-any code v w = split (decLe 4 code) (decLe 1 code)
   where
-  split : Dec (4 ≤ code) → Dec (1 ≤ code) → plain (kindFor (actOf code v)) ≡ plain (kindFor (actOf code w))
-  split (yes h) d = plain-above v code h ∙ sym (plain-above w code h)
-  split (no h) (yes l) = plain-code v code l (omega arith) ∙ sym (plain-code w code l (omega arith))
-  split (no h) (no l) = rw (code-0 v code (omega arith), code-0 w code (omega arith))
+    split : Dec (4 ≤ code) → Dec (1 ≤ code) → plain (kindFor (actOf code v)) ≡ plain (kindFor (actOf code w))
+    split (yes h) d = plain-above v code h ∙ sym (plain-above w code h)
+    split (no h) (yes l) = plain-code v code l (omega arith) ∙ sym (plain-code w code l (omega arith))
+    split (no h) (no l) = rw (code-0 v code (omega arith), code-0 w code (omega arith))
 
 pub mayBeNamed-below : (code style : ℕ) → code < 1 → mayBeNamed code style ≡ false
 unfolding mayBeNamed
@@ -60,8 +60,8 @@ takesName-other (suc (suc zero)) h = absurd (⊎-elim (λ a. omega arith) (λ b.
 takesName-other (suc (suc (suc n))) h = refl
 
 pub nameable-at
-  : (area : List ℕ) (p : Parameters) (i : ℕ)
-  → nameable (parameterAt area p i) ≡ mayBeNamed (getD (p .codes) i 0) (getD (p .styles) i 0)
+    : (area : List ℕ) (p : Parameters) (i : ℕ)
+    → nameable (parameterAt area p i) ≡ mayBeNamed (getD (p .codes) i 0) (getD (p .styles) i 0)
 unfolding nameable parameterAt parameterOf mayBeNamed
 nameable-at area p i = rw (plain-any (getD (p .codes) i 0) _ noValue)
 
@@ -70,13 +70,13 @@ nameable-at area p i = rw (plain-any (getD (p .codes) i 0) _ noValue)
 -- the columns with one more entry
 abbrev pub stored : Parameters → ℕ → ℕ → ℕ → Value → Parameters
 stored p code style name v =
-    record
-    { codes = set (p .codes) (p .len) code
-    ; styles = set (p .styles) (p .len) style
-    ; names = set (p .names) (p .len) name
-    ; «default_kinds» = set (p .«default_kinds») (p .len) (v .kind)
-    ; «default_payloads» = set (p .«default_payloads») (p .len) (v .payload)
-    ; len = p .len + 1
+    record {
+      codes = set (p .codes) (p .len) code;
+      styles = set (p .styles) (p .len) style;
+      names = set (p .names) (p .len) name;
+      «default_kinds» = set (p .«default_kinds») (p .len) (v .kind);
+      «default_payloads» = set (p .«default_payloads») (p .len) (v .payload);
+      len = p .len + 1;
     }
 
 -- an array in a struct is known by its elements, read one by one
@@ -96,28 +96,28 @@ module _ (area : List ℕ) (p : Parameters) (code style name : ℕ) (v : Value) 
   unfolding parameterAt
   stored-before j h =
       let n : j ≡ p .len → ⊥ = λ e. omega arith in
-      rw
-      ( getD-set-other (p .codes) (p .len) j code 0 n
-      , getD-set-other (p .styles) (p .len) j style 0 n
-      , getD-set-other (p .names) (p .len) j name 0 n
-      , getD-set-other (p .«default_kinds») (p .len) j (v .kind) 0 n
-      , getD-set-other (p .«default_payloads») (p .len) j (v .payload) 0 n
+      rw (
+        getD-set-other (p .codes) (p .len) j code 0 n,
+        getD-set-other (p .styles) (p .len) j style 0 n,
+        getD-set-other (p .names) (p .len) j name 0 n,
+        getD-set-other (p .«default_kinds») (p .len) j (v .kind) 0 n,
+        getD-set-other (p .«default_payloads») (p .len) j (v .payload) 0 n,
       )
 
   stored-at : Room p (p .len) → parameterAt area (stored p code style name v) (p .len) ≡ parameterOf area code style name v
   unfolding parameterAt
   stored-at r =
-      rw
-      ( getD-set-same (p .codes) (p .len) code 0 (r .codes)
-      , getD-set-same (p .styles) (p .len) style 0 (r .styles)
-      , getD-set-same (p .names) (p .len) name 0 (r .names)
-      , getD-set-same (p .«default_kinds») (p .len) (v .kind) 0 (r .kinds)
-      , getD-set-same (p .«default_payloads») (p .len) (v .payload) 0 (r .payloads)
+      rw (
+        getD-set-same (p .codes) (p .len) code 0 (r .codes),
+        getD-set-same (p .styles) (p .len) style 0 (r .styles),
+        getD-set-same (p .names) (p .len) name 0 (r .names),
+        getD-set-same (p .«default_kinds») (p .len) (v .kind) 0 (r .kinds),
+        getD-set-same (p .«default_payloads») (p .len) (v .payload) 0 (r .payloads),
       )
 
   pub stored-list
-    : Room p (p .len)
-    → parametersIn area (stored p code style name v) ≡ parametersIn area p ++ parameterOf area code style name v ∷ []
+      : Room p (p .len)
+      → parametersIn area (stored p code style name v) ≡ parametersIn area p ++ parameterOf area code style name v ∷ []
   unfolding parametersIn
   stored-list r =
       listed-more (parameterAt area (stored p code style name v)) (p .len)
@@ -126,9 +126,9 @@ module _ (area : List ℕ) (p : Parameters) (code style name : ℕ) (v : Value) 
 -- ---- a search over them
 
 pub names-at
-  : (area bytes : List ℕ) (p : Parameters) (i : ℕ)
-  → names bytes (parameterAt area p i)
-  ≡ mayBeNamed (getD (p .codes) i 0) (getD (p .styles) i 0) && sameBytes bytes (bytesAt area (getD (p .names) i 0))
+    : (area bytes : List ℕ) (p : Parameters) (i : ℕ)
+    → names bytes (parameterAt area p i)
+    ≡ mayBeNamed (getD (p .codes) i 0) (getD (p .styles) i 0) && sameBytes bytes (bytesAt area (getD (p .names) i 0))
 unfolding names parameterAt parameterOf textIn
 names-at area bytes p i =
     ap (λ (b : Bool). b && sameBytes bytes (bytesAt area (getD (p .names) i 0))) (nameable-at area p i)
@@ -139,5 +139,5 @@ module _ (area bytes : List ℕ) (p : Parameters) (i : ℕ) {a : Bool} (ea : a �
   names-style fa = names-at area bytes p i ∙ rw (← ea, fa)
 
   pub names-bytes
-    : {b : Bool} {x : List ℕ} → a ≡ true → x ≡ bytesAt area (getD (p .names) i 0) → b ≡ sameBytes bytes x → names bytes (parameterAt area p i) ≡ b
+      : {b : Bool} {x : List ℕ} → a ≡ true → x ≡ bytesAt area (getD (p .names) i 0) → b ≡ sameBytes bytes x → names bytes (parameterAt area p i) ≡ b
   names-bytes ta ex eb = names-at area bytes p i ∙ rw (← ea, ta, ← ex, eb)

@@ -41,12 +41,12 @@ unfolding readParameters stepWidth
 steps-listed cells = readEach-listed cells 0 (stepCount cells)
 
 pub stepAt-cells
-  : (cells : List ℕ) (i : ℕ)
-  → stepAt cells i
-  ≡ record
-    { code = getD cells (1 + 4 * i) 0
-    ; name = getD cells (1 + 4 * i + 1) 0
-    ; default = record { kind = getD cells (1 + 4 * i + 2) 0; payload = getD cells (1 + 4 * i + 3) 0 }
+    : (cells : List ℕ) (i : ℕ)
+    → stepAt cells i
+    ≡ record {
+      code = getD cells (1 + 4 * i) 0;
+      name = getD cells (1 + 4 * i + 1) 0;
+      default = record { kind = getD cells (1 + 4 * i + 2) 0; payload = getD cells (1 + 4 * i + 3) 0 };
     }
 unfolding stepAt readStep readValue
 stepAt-cells cells i =

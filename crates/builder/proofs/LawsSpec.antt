@@ -48,9 +48,9 @@ module _ (A : ℕ) (area : List ℕ) (s : Style) (before : List Parameter) (t : 
   -- a step that adds a parameter and may stand here is asked 6 and 7
   module _ (k : ParameterKind) (e : act t ≡ adds k) (m : mayStand s (adds k) ≡ true) where
     askStep-adds
-      : askStep A area s before t
-      ≡ ask 6 (ltb (length before) A)
-      then ask 7 (not (plain k && takesName s) || not (known before (bytesAt area (t .name))))
+        : askStep A area s before t
+        ≡ ask 6 (ltb (length before) A)
+        then ask 7 (not (plain k && takesName s) || not (known before (bytesAt area (t .name))))
     unfolding askStep
     askStep-adds = rw (e, m)
 
@@ -58,15 +58,15 @@ module _ (A : ℕ) (area : List ℕ) (s : Style) (before : List Parameter) (t : 
     askStep-6 h = askStep-adds ∙ rw (le-ltb (length before) A h)
 
     pub askStep-7
-      : length before < A
-      → not (plain k && takesName s) || not (known before (bytesAt area (t .name))) ≡ false
-      → askStep A area s before t ≡ refuse 7 noDetail
+        : length before < A
+        → not (plain k && takesName s) || not (known before (bytesAt area (t .name))) ≡ false
+        → askStep A area s before t ≡ refuse 7 noDetail
     askStep-7 h n = askStep-adds ∙ rw (lt-ltb (length before) A h, n)
 
     pub askStep-fine
-      : length before < A
-      → not (plain k && takesName s) || not (known before (bytesAt area (t .name))) ≡ true
-      → askStep A area s before t ≡ fine
+        : length before < A
+        → not (plain k && takesName s) || not (known before (bytesAt area (t .name))) ≡ true
+        → askStep A area s before t ≡ fine
     askStep-fine h n = askStep-adds ∙ rw (lt-ltb (length before) A h, n)
 
 -- ---- the promise of a step
@@ -83,32 +83,32 @@ length-parametersIn area b = length-listed _ 0 (b .params .len)
 
 module _ (area : List ℕ) (b : ParametersSpecBuilder) (t : RecordStep) where
   pub stepping-refused
-    : (n : ℕ)
-    → askStep 64 area (styleOf (b .«current_style»)) (listOfBuilder area b) t ≡ refuse n noDetail
-    → Stepping area b t (refusedBy n b)
+      : (n : ℕ)
+      → askStep 64 area (styleOf (b .«current_style»)) (listOfBuilder area b) t ≡ refuse n noDetail
+      → Stepping area b t (refusedBy n b)
   stepping-refused n e =
-      record
-      { answer = sym e
-      ; refused = λ m p. refl
-      ; style = λ p. never-fine n p
-      ; list = λ p. never-fine n p
-      ; built = λ h. h
+      record {
+        answer = sym e;
+        refused = λ m p. refl;
+        style = λ p. never-fine n p;
+        list = λ p. never-fine n p;
+        built = λ h. h;
       }
 
   pub stepping-fine
-    : (b' : ParametersSpecBuilder)
-    → askStep 64 area (styleOf (b .«current_style»)) (listOfBuilder area b) t ≡ fine
-    → styleOf (b' .«current_style») ≡ nextStyle (styleOf (b .«current_style»)) (act t)
-    → listOfBuilder area b' ≡ listOfBuilder area b ++ added area (styleOf (b .«current_style»)) (act t) (t .name)
-    → (Built area b → Built area b')
-    → Stepping area b t (record { answer = Fine; builder = b' })
+      : (b' : ParametersSpecBuilder)
+      → askStep 64 area (styleOf (b .«current_style»)) (listOfBuilder area b) t ≡ fine
+      → styleOf (b' .«current_style») ≡ nextStyle (styleOf (b .«current_style»)) (act t)
+      → listOfBuilder area b' ≡ listOfBuilder area b ++ added area (styleOf (b .«current_style»)) (act t) (t .name)
+      → (Built area b → Built area b')
+      → Stepping area b t (record { answer = Fine; builder = b' })
   stepping-fine b' e style list built =
-      record
-      { answer = sym e
-      ; refused = λ m p. never-refused m p
-      ; style = λ p. style
-      ; list = λ p. list
-      ; built = built
+      record {
+        answer = sym e;
+        refused = λ m p. never-refused m p;
+        style = λ p. style;
+        list = λ p. list;
+        built = built;
       }
 
   -- ---- the marks, which change the style alone
@@ -117,27 +117,27 @@ module _ (area : List ℕ) (b : ParametersSpecBuilder) (t : RecordStep) where
   stepping-5 e = stepping-refused 5 (askStep-5 64 area (styleOf (b .«current_style»)) (listOfBuilder area b) t e)
 
   stepping-mark
-    : (style : CurrentParameterStyle)
-    → askStep 64 area (styleOf (b .«current_style»)) (listOfBuilder area b) t ≡ fine
-    → styleOf style ≡ nextStyle (styleOf (b .«current_style»)) (act t)
-    → added area (styleOf (b .«current_style»)) (act t) (t .name) ≡ []
-    → (SoFar (styleOf (b .«current_style»)) b → SoFar (styleOf style) (underStyle style b .builder))
-    → Stepping area b t (underStyle style b)
+      : (style : CurrentParameterStyle)
+      → askStep 64 area (styleOf (b .«current_style»)) (listOfBuilder area b) t ≡ fine
+      → styleOf style ≡ nextStyle (styleOf (b .«current_style»)) (act t)
+      → added area (styleOf (b .«current_style»)) (act t) (t .name) ≡ []
+      → (SoFar (styleOf (b .«current_style»)) b → SoFar (styleOf style) (underStyle style b .builder))
+      → Stepping area b t (underStyle style b)
   stepping-mark style e next nothing sofar =
       stepping-fine (underStyle style b .builder) e next (rw nothing (sym (append-nil (listOfBuilder area b))))
       (λ h.
-      record
-      { room = h .room
-      ; positionalOnly = h .positionalOnly
-      ; positional = h .positional
-      ; args = h .args
-      ; kwargs = h .kwargs
-      ; sofar = sofar (h .sofar)
+      record {
+        room = h .room;
+        positionalOnly = h .positionalOnly;
+        positional = h .positional;
+        args = h .args;
+        kwargs = h .kwargs;
+        sofar = sofar (h .sofar);
       })
 
 sofar-named
-  : (s : Style) (b : ParametersSpecBuilder)
-  → comesBefore s namedOnly ≡ true → SoFar s b → (b .args ≡ Absent) × (b .kwargs ≡ Absent)
+    : (s : Style) (b : ParametersSpecBuilder)
+    → comesBefore s namedOnly ≡ true → SoFar s b → (b .args ≡ Absent) × (b .kwargs ≡ Absent)
 unfolding comesBefore
 sofar-named posOnly b m h = (h .2, h .3)
 sofar-named posOrNamed b m h = (h .1, h .2)
@@ -153,8 +153,8 @@ sofar-more noMore b m h = absurd (false≢true m)
 
 -- "Code 4 gives PosOrNamed": the / mark
 pub stepping-slash
-  : (area : List ℕ) (b : ParametersSpecBuilder) (t : RecordStep)
-  → styleOf (b .«current_style») ≡ posOnly → act t ≡ slash → Stepping area b t (underStyle PosOrNamed b)
+    : (area : List ℕ) (b : ParametersSpecBuilder) (t : RecordStep)
+    → styleOf (b .«current_style») ≡ posOnly → act t ≡ slash → Stepping area b t (underStyle PosOrNamed b)
 unfolding comesBefore
 stepping-slash area b t s e =
     stepping-mark area b t PosOrNamed
@@ -165,8 +165,8 @@ stepping-slash area b t s e =
 
 -- "5 and 6 NamedOnly": the bare * mark
 pub stepping-star
-  : (area : List ℕ) (b : ParametersSpecBuilder) (t : RecordStep)
-  → comesBefore (styleOf (b .«current_style»)) namedOnly ≡ true → act t ≡ bareStar → Stepping area b t (underStyle NamedOnly b)
+    : (area : List ℕ) (b : ParametersSpecBuilder) (t : RecordStep)
+    → comesBefore (styleOf (b .«current_style»)) namedOnly ≡ true → act t ≡ bareStar → Stepping area b t (underStyle NamedOnly b)
 stepping-star area b t s e =
     stepping-mark area b t NamedOnly
     (askStep-star 64 area (styleOf (b .«current_style»)) (listOfBuilder area b) t e s)
@@ -177,18 +177,17 @@ stepping-star area b t s e =
 -- ---- a step that adds a parameter
 
 module _
-  (area : List ℕ) (b : ParametersSpecBuilder) (s : Step) (k : ParameterKind)
-  (e : act (stepOf s) ≡ adds k) (m : mayStand (styleOf (b .«current_style»)) (adds k) ≡ true) where
-
+    (area : List ℕ) (b : ParametersSpecBuilder) (s : Step) (k : ParameterKind)
+    (e : act (stepOf s) ≡ adds k) (m : mayStand (styleOf (b .«current_style»)) (adds k) ≡ true) where
   pub adding-6 : 64 ≤ b .params .len → Stepping area b (stepOf s) (refusedBy 6 b)
   adding-6 h =
       stepping-refused area b (stepOf s) 6
       (askStep-6 64 area (styleOf (b .«current_style»)) (listOfBuilder area b) (stepOf s) k e m (rw length-parametersIn h))
 
   pub adding-7
-    : b .params .len < 64
-    → not (plain k && takesName (styleOf (b .«current_style»))) || not (known (listOfBuilder area b) (bytesAt area (s .name))) ≡ false
-    → Stepping area b (stepOf s) (refusedBy 7 b)
+      : b .params .len < 64
+      → not (plain k && takesName (styleOf (b .«current_style»))) || not (known (listOfBuilder area b) (bytesAt area (s .name))) ≡ false
+      → Stepping area b (stepOf s) (refusedBy 7 b)
   unfolding stepOf
   adding-7 h n =
       stepping-refused area b (stepOf s) 7
@@ -204,11 +203,11 @@ module _
     list-newest = p .list area ∙ rw e
 
     pub adding-fine
-      : b .params .len < 64
-      → not (plain k && takesName (styleOf (b .«current_style»))) || not (known (listOfBuilder area b) (bytesAt area (s .name))) ≡ true
-      → styleOf (b' .«current_style») ≡ nextStyle (styleOf (b .«current_style»)) (adds k)
-      → (Built area b → Built area b')
-      → Stepping area b (stepOf s) (record { answer = Fine; builder = b' })
+        : b .params .len < 64
+        → not (plain k && takesName (styleOf (b .«current_style»))) || not (known (listOfBuilder area b) (bytesAt area (s .name))) ≡ true
+        → styleOf (b' .«current_style») ≡ nextStyle (styleOf (b .«current_style»)) (adds k)
+        → (Built area b → Built area b')
+        → Stepping area b (stepOf s) (record { answer = Fine; builder = b' })
     unfolding stepOf
     adding-fine h n style built =
         stepping-fine area b (stepOf s) b'
@@ -219,40 +218,40 @@ module _
 
     -- counts and indices that took in the newest parameter are those of the longer list
     pub built-newest
-      : b .params .len < 64
-      → b' .«positional_only» ≡ cond (positionalOnly newest) (b .«positional_only» + 1) (b .«positional_only»)
-      → b' .positional ≡ cond (positional newest) (b .positional + 1) (b .positional)
-      → indexOf (b' .args) ≡ orFirst (indexOf (b .args)) (isArgs k) (b .params .len)
-      → indexOf (b' .kwargs) ≡ orFirst (indexOf (b .kwargs)) (isKwargs k) (b .params .len)
-      → SoFar (styleOf (b' .«current_style»)) b'
-      → Built area b
-      → Built area b'
+        : b .params .len < 64
+        → b' .«positional_only» ≡ cond (positionalOnly newest) (b .«positional_only» + 1) (b .«positional_only»)
+        → b' .positional ≡ cond (positional newest) (b .positional + 1) (b .positional)
+        → indexOf (b' .args) ≡ orFirst (indexOf (b .args)) (isArgs k) (b .params .len)
+        → indexOf (b' .kwargs) ≡ orFirst (indexOf (b .kwargs)) (isKwargs k) (b .params .len)
+        → SoFar (styleOf (b' .«current_style»)) b'
+        → Built area b
+        → Built area b'
     unfolding positionalOnlyCount positionalCount argsIndex kwargsIndex
     built-newest h only all star double sofar built =
-        record
-        { room = rw (p .len) (omega arith)
-        ; positionalOnly = only ∙ rw (list-newest, tally-snoc, ← built .positionalOnly)
-        ; positional = all ∙ rw (list-newest, tally-snoc, ← built .positional)
-        ; args = star ∙ rw (list-newest, first-snoc, ← built .args, length-parametersIn, zero-add)
-        ; kwargs = double ∙ rw (list-newest, first-snoc, ← built .kwargs, length-parametersIn, zero-add)
-        ; sofar = sofar
+        record {
+          room = rw (p .len) (omega arith);
+          positionalOnly = only ∙ rw (list-newest, tally-snoc, ← built .positionalOnly);
+          positional = all ∙ rw (list-newest, tally-snoc, ← built .positional);
+          args = star ∙ rw (list-newest, first-snoc, ← built .args, length-parametersIn, zero-add);
+          kwargs = double ∙ rw (list-newest, first-snoc, ← built .kwargs, length-parametersIn, zero-add);
+          sofar = sofar;
         }
 
 -- ---- the three ways to add
 
 -- under a style a plain parameter moves the counts on by one, as far as the style lets it be positional
 add-sofar
-  : (s : Style) (b b' : ParametersSpecBuilder)
-  → comesBefore s noMore ≡ true
-  → b' .params .len ≡ b .params .len + 1
-  → b' .«positional_only» ≡ cond (comesBefore s posOrNamed) (b .params .len + 1) (b .«positional_only»)
-  → b' .positional ≡ cond (takesPosition s) (b .params .len + 1) (b .positional)
-  → b' .args ≡ b .args
-  → b' .kwargs ≡ b .kwargs
-  → SoFar s b
-  → (b' .«positional_only» ≡ cond (comesBefore s posOrNamed) (b .«positional_only» + 1) (b .«positional_only»))
-  × (b' .positional ≡ cond (takesPosition s) (b .positional + 1) (b .positional))
-  × SoFar s b'
+    : (s : Style) (b b' : ParametersSpecBuilder)
+    → comesBefore s noMore ≡ true
+    → b' .params .len ≡ b .params .len + 1
+    → b' .«positional_only» ≡ cond (comesBefore s posOrNamed) (b .params .len + 1) (b .«positional_only»)
+    → b' .positional ≡ cond (takesPosition s) (b .params .len + 1) (b .positional)
+    → b' .args ≡ b .args
+    → b' .kwargs ≡ b .kwargs
+    → SoFar s b
+    → (b' .«positional_only» ≡ cond (comesBefore s posOrNamed) (b .«positional_only» + 1) (b .«positional_only»))
+    × (b' .positional ≡ cond (takesPosition s) (b .positional + 1) (b .positional))
+    × SoFar s b'
 unfolding comesBefore
 add-sofar posOnly b b' m l only all star double h =
     (omega arith, omega arith, (omega arith, omega arith, star ∙ h .2, double ∙ h .3))
@@ -295,19 +294,19 @@ isKwargs-plain kwargs e = absurd (false≢true e)
 
 -- a plain parameter, under the style that stays
 pub adding-plain
-  : (area : List ℕ) (b b' : ParametersSpecBuilder) (s : Step) (k : ParameterKind)
-  → act (stepOf s) ≡ adds k
-  → plain k ≡ true
-  → comesBefore (styleOf (b .«current_style»)) noMore ≡ true
-  → b .params .len < 64
-  → not (takesName (styleOf (b .«current_style»))) || not (known (listOfBuilder area b) (bytesAt area (s .name))) ≡ true
-  → Pushed (b .params) (b .«current_style») s (b' .params)
-  → b' .«positional_only» ≡ cond (comesBefore (styleOf (b .«current_style»)) posOrNamed) (b .params .len + 1) (b .«positional_only»)
-  → b' .positional ≡ cond (takesPosition (styleOf (b .«current_style»))) (b .params .len + 1) (b .positional)
-  → b' .«current_style» ≡ b .«current_style»
-  → b' .args ≡ b .args
-  → b' .kwargs ≡ b .kwargs
-  → Stepping area b (stepOf s) (record { answer = Fine; builder = b' })
+    : (area : List ℕ) (b b' : ParametersSpecBuilder) (s : Step) (k : ParameterKind)
+    → act (stepOf s) ≡ adds k
+    → plain k ≡ true
+    → comesBefore (styleOf (b .«current_style»)) noMore ≡ true
+    → b .params .len < 64
+    → not (takesName (styleOf (b .«current_style»))) || not (known (listOfBuilder area b) (bytesAt area (s .name))) ≡ true
+    → Pushed (b .params) (b .«current_style») s (b' .params)
+    → b' .«positional_only» ≡ cond (comesBefore (styleOf (b .«current_style»)) posOrNamed) (b .params .len + 1) (b .«positional_only»)
+    → b' .positional ≡ cond (takesPosition (styleOf (b .«current_style»))) (b .params .len + 1) (b .positional)
+    → b' .«current_style» ≡ b .«current_style»
+    → b' .args ≡ b .args
+    → b' .kwargs ≡ b .kwargs
+    → Stepping area b (stepOf s) (record { answer = Fine; builder = b' })
 unfolding positionalOnly positional
 adding-plain area b b' s k e pk m h n p only all same star double =
     let stands : mayStand (styleOf (b .«current_style»)) (adds k) ≡ true = mayStand-plain (styleOf (b .«current_style»)) k pk ∙ m in
@@ -324,17 +323,17 @@ adding-plain area b b' s k e pk m h n p only all same star double =
 
 -- *args, after which no parameter is positional
 pub adding-args
-  : (area : List ℕ) (b b' : ParametersSpecBuilder) (s : Step)
-  → act (stepOf s) ≡ adds args
-  → comesBefore (styleOf (b .«current_style»)) namedOnly ≡ true
-  → b .params .len < 64
-  → Pushed (b .params) (b .«current_style») s (b' .params)
-  → b' .«positional_only» ≡ b .«positional_only»
-  → b' .positional ≡ b .positional
-  → styleOf (b' .«current_style») ≡ namedOnly
-  → b' .args ≡ At (b .params .len)
-  → b' .kwargs ≡ b .kwargs
-  → Stepping area b (stepOf s) (record { answer = Fine; builder = b' })
+    : (area : List ℕ) (b b' : ParametersSpecBuilder) (s : Step)
+    → act (stepOf s) ≡ adds args
+    → comesBefore (styleOf (b .«current_style»)) namedOnly ≡ true
+    → b .params .len < 64
+    → Pushed (b .params) (b .«current_style») s (b' .params)
+    → b' .«positional_only» ≡ b .«positional_only»
+    → b' .positional ≡ b .positional
+    → styleOf (b' .«current_style») ≡ namedOnly
+    → b' .args ≡ At (b .params .len)
+    → b' .kwargs ≡ b .kwargs
+    → Stepping area b (stepOf s) (record { answer = Fine; builder = b' })
 unfolding positionalOnly positional
 adding-args area b b' s e m h p only all style star double =
     adding-fine area b s args e m b' p h refl style
@@ -348,17 +347,17 @@ adding-args area b b' s e m h p only all style star double =
 
 -- **kwargs, after which there is no parameter
 pub adding-kwargs
-  : (area : List ℕ) (b b' : ParametersSpecBuilder) (s : Step)
-  → act (stepOf s) ≡ adds kwargs
-  → comesBefore (styleOf (b .«current_style»)) noMore ≡ true
-  → b .params .len < 64
-  → Pushed (b .params) (b .«current_style») s (b' .params)
-  → b' .«positional_only» ≡ b .«positional_only»
-  → b' .positional ≡ b .positional
-  → styleOf (b' .«current_style») ≡ noMore
-  → b' .args ≡ b .args
-  → b' .kwargs ≡ At (b .params .len)
-  → Stepping area b (stepOf s) (record { answer = Fine; builder = b' })
+    : (area : List ℕ) (b b' : ParametersSpecBuilder) (s : Step)
+    → act (stepOf s) ≡ adds kwargs
+    → comesBefore (styleOf (b .«current_style»)) noMore ≡ true
+    → b .params .len < 64
+    → Pushed (b .params) (b .«current_style») s (b' .params)
+    → b' .«positional_only» ≡ b .«positional_only»
+    → b' .positional ≡ b .positional
+    → styleOf (b' .«current_style») ≡ noMore
+    → b' .args ≡ b .args
+    → b' .kwargs ≡ At (b .params .len)
+    → Stepping area b (stepOf s) (record { answer = Fine; builder = b' })
 unfolding positionalOnly positional
 adding-kwargs area b b' s e m h p only all style star double =
     adding-fine area b s kwargs e m b' p h refl style
@@ -385,10 +384,10 @@ kind-plain s l u = plain-code (stepOf s .default) (s .code) l u
 
 module _ (area : List ℕ) (b : ParametersSpecBuilder) (s : Step) where
   pub refused-code
-    : (n : ℕ) (style : CurrentParameterStyle)
-    → s .code ≡ n → b .«current_style» ≡ style
-    → mayStand (styleOf style) (actOf n (stepOf s .default)) ≡ false
-    → Stepping area b (stepOf s) (refusedBy 5 b)
+      : (n : ℕ) (style : CurrentParameterStyle)
+      → s .code ≡ n → b .«current_style» ≡ style
+      → mayStand (styleOf style) (actOf n (stepOf s .default)) ≡ false
+      → Stepping area b (stepOf s) (refusedBy 5 b)
   refused-code n style e d m = stepping-5 area b (stepOf s) (rw (act-code s n e, d) m)
 
   pub refused-plain : 1 ≤ s .code → s .code < 4 → b .«current_style» ≡ NoMore → Stepping area b (stepOf s) (refusedBy 5 b)
@@ -398,10 +397,10 @@ module _ (area : List ℕ) (b : ParametersSpecBuilder) (s : Step) where
       (rw (act-plain s l u) (mayStand-plain (styleOf (b .«current_style»)) (kindFor (act (stepOf s))) (kind-plain s l u) ∙ rw d))
 
   pub refused-star
-    : (style : CurrentParameterStyle)
-    → 5 ≤ s .code → s .code < 7 → b .«current_style» ≡ style
-    → comesBefore (styleOf style) namedOnly ≡ false
-    → Stepping area b (stepOf s) (refusedBy 5 b)
+      : (style : CurrentParameterStyle)
+      → 5 ≤ s .code → s .code < 7 → b .«current_style» ≡ style
+      → comesBefore (styleOf style) namedOnly ≡ false
+      → Stepping area b (stepOf s) (refusedBy 5 b)
   refused-star style l u d m =
       stepping-5 area b (stepOf s)
       (rw (act-code s (s .code) refl) (mayStand-star (stepOf s .default) (styleOf (b .«current_style»)) (s .code) l u ∙ rw d m))

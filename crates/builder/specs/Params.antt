@@ -37,10 +37,10 @@ kindFor unknownCode = kwargs
 -- a step of the code as one of `rules`
 unfoldable pub stepOf : Step → RecordStep
 stepOf s =
-    record
-    { code = s .code
-    ; name = s .name
-    ; default = record { kind = s .«default_kind»; payload = s .«default_payload» }
+    record {
+      code = s .code;
+      name = s .name;
+      default = record { kind = s .«default_kind»; payload = s .«default_payload» };
     }
 
 unfoldable pub parameterOf : List ℕ → ℕ → ℕ → ℕ → Value → Parameter
@@ -64,7 +64,7 @@ mayBeNamed code style = plain (kindFor (actOf code noValue)) && takesName (style
 pub record Pushed (p : Parameters) (style : CurrentParameterStyle) (s : Step) (r : Parameters) : Type 0 where
   pub len : r .len ≡ p .len + 1
   pub list
-    : (area : List ℕ)
-    → parametersIn area r
-    ≡ parametersIn area p
-    ++ (record { kind = kindFor (actOf (s .code) (stepOf s .default)); style = styleOf style; name = textIn area (s .name) } ∷ [])
+      : (area : List ℕ)
+      → parametersIn area r
+      ≡ parametersIn area p
+      ++ (record { kind = kindFor (actOf (s .code) (stepOf s .default)); style = styleOf style; name = textIn area (s .name) } ∷ [])

@@ -30,17 +30,17 @@ refusedBy n b = record { answer = Refused n; builder = b }
 
 abbrev pub underStyle : CurrentParameterStyle → ParametersSpecBuilder → Stepped
 underStyle style b =
-    record
-    { answer = Fine
-    ; builder =
-          record
-          { params = b .params
-          ; «positional_only» = b .«positional_only»
-          ; positional = b .positional
-          ; «current_style» = style
-          ; args = b .args
-          ; kwargs = b .kwargs
-          }
+    record {
+      answer = Fine;
+      builder =
+          record {
+            params = b .params;
+            «positional_only» = b .«positional_only»;
+            positional = b .positional;
+            «current_style» = style;
+            args = b .args;
+            kwargs = b .kwargs;
+          };
     }
 
 -- the builder's parameters as a list of `rules`
@@ -80,9 +80,9 @@ pub record Stepping (area : List ℕ) (b : ParametersSpecBuilder) (t : RecordSte
   pub refused : (n : ℕ) → r .answer ≡ Refused n → r .builder ≡ b
   pub style : r .answer ≡ Fine → styleOf (r .builder .«current_style») ≡ nextStyle (styleOf (b .«current_style»)) (act t)
   pub list
-    : r .answer ≡ Fine
-    → listOfBuilder area (r .builder)
-    ≡ listOfBuilder area b ++ added area (styleOf (b .«current_style»)) (act t) (t .name)
+      : r .answer ≡ Fine
+      → listOfBuilder area (r .builder)
+      ≡ listOfBuilder area b ++ added area (styleOf (b .«current_style»)) (act t) (t .name)
   pub built : Built area b → Built area (r .builder)
 
 -- a list that is refused has no parameter
@@ -93,15 +93,15 @@ pub record NoList (n : ℕ) (r : Finished) : Type 0 where
 -- the list of a state, with its counts and indices
 abbrev pub finished : ParametersSpecBuilder → ParametersSpec
 finished b =
-    record
-    { params = b .params
-    ; indices =
-          record
-          { «num_positional_only» = b .«positional_only»
-          ; «num_positional» = b .positional
-          ; args = b .args
-          ; kwargs = b .kwargs
-          }
+    record {
+      params = b .params;
+      indices =
+          record {
+            «num_positional_only» = b .«positional_only»;
+            «num_positional» = b .positional;
+            args = b .args;
+            kwargs = b .kwargs;
+          };
     }
 
 -- the end: question 8, and the list

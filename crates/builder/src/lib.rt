@@ -1,17 +1,16 @@
 // The parameter list (01, "Parameter list: `ParametersSpecBuilder`"): from a parameter record to the finished list, questions 1 to 8.
 // Reworked from starlark 0.14.2, src/eval/runtime/params/spec.rs, Apache-2.0.
+use cells::answer::Answer;
 use record::codes_known;
 use record::defaults_right;
 use record::names_inside;
 use record::step_at;
 use record::step_count;
 use record::whole_steps;
-use cells::answer::Answer;
 use spec::Finished;
 use spec::ParametersSpec;
 use spec::ParametersSpecBuilder;
 use spec::Stepped;
-
 ghost use Rattle.builder.specs.Build.{Building, Taking};
 
 pub mod params;

@@ -2,7 +2,6 @@
 // the columns that it reads. Reworked from starlark 0.14.2, src/eval/runtime/params/spec.rs (CurrentParameterStyle, and the
 // params of ParametersSpecBuilder), Apache-2.0.
 use cells::text::same;
-
 ghost use mathlib.Core.Path.{_≡_};
 ghost use mathlib.Core.Bool.{cond, not, _||_};
 ghost use Prim.Native.Nat.{_+_, _≤_, _<_};

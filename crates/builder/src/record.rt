@@ -5,7 +5,6 @@ use cells::text::ReadText;
 use cells::text::read_text;
 use cells::value::ReadValue;
 use cells::value::read_default;
-
 ghost use mathlib.Core.Path.{_≡_};
 ghost use Prim.Native.Nat.{_<_};
 ghost use Rattle.rules.specs.Text.{isText};

@@ -5,7 +5,6 @@ use crate::params::CurrentParameterStyle;
 use crate::params::Parameters;
 use crate::params::Step;
 use cells::answer::Answer;
-
 ghost use mathlib.Core.Path.{_≡_};
 ghost use mathlib.Core.Bool.{true};
 ghost use mathlib.Core.List.{List};

@@ -10,4 +10,5 @@ pub mod LawsBinding
 pub mod LawsCanFill
 pub mod LawsCut
 pub mod LawsFound
+pub mod LawsShort
 pub mod Demand3

@@ -27,7 +27,7 @@ new-requires c κs = search needs
 
 -- src/lib.rt:52:5
 loop-holds : tie.Need-loop-holds Inv-loop μ-loop
-loop-holds c = 
+loop-holds c =
     let a = c .before .before .before .before .args in
     (search needs, left-start (a .cells .now) (a .area .now) (c .before .step-count .result) (c .new .result) (c .before .step-count .ensures) (c .new .ensures))
 
@@ -48,7 +48,7 @@ enum-told-2 c = search needs
 
 -- src/lib.rt:56:13
 returns : tie.Need-returns Inv-loop μ-loop
-returns c = 
+returns c =
     let a = c .before .before .before .before .before .before .before .before .before .before .args in
     left-stop (a .cells .now) (a .area .now) (c .before .before .before .before .before .before .before .step-count .result) (c .before .before .before .before .before .loop .builder) (c .before .before .before .before .before .loop .i) (c .before .before .before .before .before .loop .inv .1) (c .before .before .before .before .loop-test .taken) (stepOf (c .before .before .before .step-at .result)) (c .before .before .before .step-at .ensures) (c .before .before .step .result) (c .before .before .step .ensures) _ (c .enum-told2 .given .1)
 
@@ -62,13 +62,13 @@ loop-less c = search needs
 
 -- src/lib.rt:52:5
 loop-again : tie.Need-loop-again Inv-loop μ-loop
-loop-again c = 
+loop-again c =
     let a = c .before .before .before .before .before .before .before .before .before .before .before .args in
     (search needs, left-next (a .cells .now) (a .area .now) (c .before .before .before .before .before .before .before .before .step-count .result) (c .before .before .before .before .before .before .loop .builder) (c .before .before .before .before .before .before .loop .i) (c .before .before .before .before .before .before .loop .inv .1) (c .before .before .before .before .before .loop-test .taken) (stepOf (c .before .before .before .before .step-at .result)) (c .before .before .before .before .step-at .ensures) (c .before .before .before .step .result) (c .before .before .before .step .ensures) (c .before .enum-told .given .1))
 
 -- src/lib.rt:46:1
 returns-2 : tie.Need-returns-2 Inv-loop μ-loop
-returns-2 c = 
+returns-2 c =
     let a = c .before .before .before .before .before .before .args in
     left-end (a .cells .now) (a .area .now) (c .before .before .before .step-count .result) (c .before .loop .builder) (c .before .loop .i) (c .before .loop .inv .1) (c .loop-test .left)
 

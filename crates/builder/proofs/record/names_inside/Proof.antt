@@ -35,7 +35,7 @@ is-name-requires c κs = search needs
 
 -- src/record.rt:53:9
 returns : tie.Need-returns Inv-loop μ-loop
-returns c = 
+returns c =
     let a = c .before .before .before .before .before .args in
     function-not (a .area .now) (a .cells .now) (c .before .before .cell .ensures) (c .before .is-name .ensures) (c .if1 .taken)
 
@@ -45,11 +45,12 @@ step-count-requires c κs = search needs
 
 -- src/record.rt:57:5
 loop-holds : tie.Need-loop-holds Inv-loop μ-loop
-loop-holds c = 
-    let a = c .before .before .before .before .before .before .args in
-    (search needs,
-    function-named (a .area .now) (a .cells .now) (c .before .before .before .cell .ensures) (c .before .before .is-name .ensures) (c .before .if1 .left)
-    ∙ each-start (stepName (a .area .now)) (a .cells .now) (c .step-count .result) (c .step-count .ensures))
+loop-holds c =
+    let a = c .before .before .before .before .before .before .args in (
+      search needs,
+      function-named (a .area .now) (a .cells .now) (c .before .before .before .cell .ensures) (c .before .before .is-name .ensures) (c .before .if1 .left)
+          ∙ each-start (stepName (a .area .now)) (a .cells .now) (c .step-count .result) (c .step-count .ensures),
+    )
 
 -- src/record.rt:58:13
 step-at-requires : tie.Need-step-at-requires Inv-loop μ-loop
@@ -61,7 +62,7 @@ name-inside-requires c κs = search needs
 
 -- src/record.rt:59:13
 returns-2 : tie.Need-returns-2 Inv-loop μ-loop
-returns-2 c = 
+returns-2 c =
     let a = c .before .before .before .before .before .before .before .before .before .before .before .args in
     each-stop (stepName (a .area .now)) (a .cells .now) (c .before .before .before .before .before .step-count .result) (c .before .before .before .before .loop .i) (c .before .before .before .before .loop .inv .1) (c .before .before .before .loop-test .taken) (c .before .before .step-at .ensures) (c .before .name-inside .ensures) (c .if2 .taken)
 
@@ -75,13 +76,13 @@ loop-less c = search needs
 
 -- src/record.rt:57:5
 loop-again : tie.Need-loop-again Inv-loop μ-loop
-loop-again c = 
+loop-again c =
     let a = c .before .before .before .before .before .before .before .before .before .before .before .args in
     (search needs, each-next (stepName (a .area .now)) (a .cells .now) (c .before .before .before .before .before .step-count .result) (c .before .before .before .before .loop .i) (c .before .before .before .before .loop .inv .1) (c .before .before .before .loop-test .taken) (c .before .before .step-at .ensures) (c .before .name-inside .ensures) (c .if2 .left))
 
 -- src/record.rt:49:1
 returns-3 : tie.Need-returns-3 Inv-loop μ-loop
-returns-3 c = 
+returns-3 c =
     let a = c .before .before .before .before .before .before .before .before .args in
     each-end (stepName (a .area .now)) (a .cells .now) (c .before .before .step-count .result) (c .before .loop .i) (c .before .loop .inv .1) (c .loop-test .left)
 

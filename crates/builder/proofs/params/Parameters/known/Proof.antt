@@ -93,13 +93,14 @@ loop-again c =
     let at = c .before .before .before .before .before .loop in
     let a = c .before .before .before .before .before .before .before .before .args in
     let miss : names (a .bytes .now) (parameterAt (a .area .now) (a .t1) (at .i)) ≡ false =
-            ⊎-elim
-            (λ w. names-bytes (a .area .now) (a .bytes .now) (a .t1) (at .i) (c .before .nameable .ensures) (w .0 .taken) (w .2 .ensures) (w .3 .ensures) ∙ w .4 .left)
-            (λ w. names-style (a .area .now) (a .bytes .now) (a .t1) (at .i) (c .before .nameable .ensures) (w .left))
-            (c .if1 .came) in
-    (search needs,
-    at .inv .1
-    ∙ any-miss (names (a .bytes .now)) (parameterAt (a .area .now) (a .t1)) (at .i) (a .t1 .len) (c .before .before .before .before .loop-test .taken) miss)
+    ⊎-elim
+    (λ w. names-bytes (a .area .now) (a .bytes .now) (a .t1) (at .i) (c .before .nameable .ensures) (w .0 .taken) (w .2 .ensures) (w .3 .ensures) ∙ w .4 .left)
+    (λ w. names-style (a .area .now) (a .bytes .now) (a .t1) (at .i) (c .before .nameable .ensures) (w .left))
+    (c .if1 .came) in (
+      search needs,
+      at .inv .1
+          ∙ any-miss (names (a .bytes .now)) (parameterAt (a .area .now) (a .t1)) (at .i) (a .t1 .len) (c .before .before .before .before .loop-test .taken) miss,
+    )
 
 -- src/params.rt:130:5
 returns-2 : tie.Need-returns-2 Inv-loop μ-loop

@@ -76,9 +76,9 @@ returns c =
     let kinds : length (p .«default_kinds») ≡ 64 = length-held (p .«default_kinds») (held .1 .1 .1 .0 .1 .0 .1) in
     let payloads : length (p .«default_payloads») ≡ 64 = length-held (p .«default_payloads») (held .1 .1 .1 .1 .0 .1 .0 .1) in
     let room : Room p (p .len) = omega arith in
-    record
-    { len = refl
-    ; list = λ area. rw (← styleFor-rank (styleOf (c .before .args .style)), ← c .number .ensures) (stored-list area p (s .code) (c .number .result) (s .name) (stepOf s .default) room)
+    record {
+      len = refl;
+      list = λ area. rw (← styleFor-rank (styleOf (c .before .args .style)), ← c .number .ensures) (stored-list area p (s .code) (c .number .result) (s .name) (stepOf s .default) room);
     }
 
 pub push-spec : {M : Type 1} → statement M

@@ -19,20 +19,20 @@ returns : tie.Need-returns
 returns c =
     let b = c .before .before .before .args .self in
     let none = c .refused .ensures in
-    record
-    { answer = ap answerOf (none .answer) ∙ sym (ap (ask 8) (lt-leb (b .«positional_only») (b .positional) (c .before .if1 .taken)))
-    ; fine = λ e. never-fine 8 (sym (none .answer) ∙ e)
-    ; refused = λ n e. none .none
+    record {
+      answer = ap answerOf (none .answer) ∙ sym (ap (ask 8) (lt-leb (b .«positional_only») (b .positional) (c .before .if1 .taken)));
+      fine = λ e. never-fine 8 (sym (none .answer) ∙ e);
+      refused = λ n e. none .none;
     }
 
 -- src/spec.rt:279:5
 returns-2 : tie.Need-returns-2
 returns-2 c =
     let b = c .before .before .before .args .self in
-    record
-    { answer = sym (ap (ask 8) (le-leb (b .«positional_only») (b .positional) (c .before .if1 .left)))
-    ; fine = λ e. refl
-    ; refused = λ n e. never-refused n e
+    record {
+      answer = sym (ap (ask 8) (le-leb (b .«positional_only») (b .positional) (c .before .if1 .left)));
+      fine = λ e. refl;
+      refused = λ n e. never-refused n e;
     }
 
 pub finish-spec : {M : Type 1} → statement M

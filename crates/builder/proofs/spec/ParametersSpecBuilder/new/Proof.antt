@@ -18,18 +18,18 @@ returns : tie.Need-returns
 unfolding parametersIn positionalOnlyCount positionalCount argsIndex kwargsIndex
 returns c =
     let e : c .new .result .len ≡ 0 = c .new .ensures in
-    record
-    { style = refl
-    ; list = λ area. rw e
-    ; built = λ area.
-          record
-          { room = rw e (omega arith)
-          ; positionalOnly = rw e
-          ; positional = rw e
-          ; args = rw e
-          ; kwargs = rw e
-          ; sofar = (rw e, rw e, refl, refl)
-          }
+    record {
+      style = refl;
+      list = λ area. rw e;
+      built = λ area.
+          record {
+            room = rw e (omega arith);
+            positionalOnly = rw e;
+            positional = rw e;
+            args = rw e;
+            kwargs = rw e;
+            sofar = (rw e, rw e, refl, refl);
+          };
     }
 
 pub new-spec : {M : Type 1} → statement M
