@@ -1,14 +1,14 @@
 -- Laws of questions that look for the first parameter of a kind, 16 and 20 to 22: each is what a search over indices finds.
 -- Assumes nothing.
 use mathlib.Core.Path.{_≡_, refl, sym, ap, ap₂, subst, _∙_}
-use mathlib.Core.Bool.{Bool, true, false, cond, _&&_}
+use mathlib.Core.Bool.{Bool, true, false, cond, _&&_, _||_}
 use mathlib.Core.List.{List, [], _∷_}
 use mathlib.Core.Option.{Option, none, some}
 use Prim.Native.Nat.{ℕ, zero, suc, _+_, _<_, suc-le-suc}
 use native.Mathlib.Nat.{add-zero}
 use native.Mathlib.Omega.{arith}
 use lib.ListN.{length, getD}
-use Rattle.rules.specs.Listing.{mapFrom}
+use Rattle.rules.specs.Listing.{anyFrom, mapFrom}
 use Rattle.rules.specs.Value.{Value}
 use Rattle.rules.specs.Answer.{Answer, fine, refuse, name, partOf, specArea}
 use Rattle.rules.specs.CallRecord.{Named}
@@ -26,6 +26,10 @@ abbrev pub missingAt : (ℕ → Parameter) → Option ℕ → Answer
 missingAt q none = fine
 missingAt q (some k) = refuse (missing (q k .style)) (name (partOf specArea (q k .name)))
 
+abbrev pub isSome : Option ℕ → Bool
+isSome none = false
+isSome (some k) = true
+
 module _ (q : ℕ → Parameter) (test : ℕ → Bool) where
   -- the hypotheses of both: what stands at an index, and what is tested there
   next-of : {X : Type 0} (i : ℕ) (x : X) (xs : List X) (d : X) (P : ℕ → X → Type 0) → ((k : ℕ) → k < length (x ∷ xs) → P (i + k) (getD (x ∷ xs) k d)) → (k : ℕ) → k < length xs → P (suc i + k) (getD xs k d)
@@ -36,6 +40,16 @@ module _ (q : ℕ → Parameter) (test : ℕ → Bool) where
 
   here-of : {X : Type 0} (i : ℕ) (x : X) (xs : List X) (d : X) (P : ℕ → X → Type 0) → ((k : ℕ) → k < length (x ∷ xs) → P (i + k) (getD (x ∷ xs) k d)) → P i x
   here-of i x xs d P h = subst (λ (n : ℕ). P n x) (add-zero i) (h 0 (omega arith))
+
+  -- is there one at all?
+  pub any-first : (f : ℕ → Parameter → Bool) (i : ℕ) (ps : List Parameter) (d : Parameter) → ((k : ℕ) → k < length ps → f (i + k) (getD ps k d) ≡ test (i + k))
+    → anyFrom f i ps ≡ isSome (firstIndex test i (length ps))
+  any-first f i [] d tested = refl
+  any-first f i (p ∷ ps) d tested = go (f i p) (here-of i p ps d (λ n x. f n x ≡ test n) tested) (any-first f (suc i) ps d (next-of i p ps d (λ n x. f n x ≡ test n) tested))
+    where
+      go : (b : Bool) → b ≡ test i → anyFrom f (suc i) ps ≡ isSome (firstIndex test (suc i) (length ps)) → (b || anyFrom f (suc i) ps) ≡ isSome (cond (test i) (some i) (firstIndex test (suc i) (length ps)))
+      go true e ih = ap (λ b. isSome (cond b (some i) (firstIndex test (suc i) (length ps)))) e
+      go false e ih = ih ∙ ap (λ b. isSome (cond b (some i) (firstIndex test (suc i) (length ps)))) e
 
   pub repeats-first : (P : List Value) (W : List Named) (i : ℕ) (ps : List Parameter) (d : Parameter)
       → ((k : ℕ) → k < length ps → getD ps k d ≡ q (i + k)) → ((k : ℕ) → k < length ps → (fromP P (i + k) (getD ps k d) && namedBy W (getD ps k d)) ≡ test (i + k))

@@ -2,3 +2,4 @@
 pub mod LawsIndex
 pub mod LawsResolved
 pub mod LawsAsked
+pub mod LawsBoard
