@@ -43,7 +43,7 @@ module _ (q : ℕ → Parameter) (test : ℕ → Bool) where
 
   -- is there one at all?
   pub any-first : (f : ℕ → Parameter → Bool) (i : ℕ) (ps : List Parameter) (d : Parameter) → ((k : ℕ) → k < length ps → f (i + k) (getD ps k d) ≡ test (i + k))
-    → anyFrom f i ps ≡ isSome (firstIndex test i (length ps))
+      → anyFrom f i ps ≡ isSome (firstIndex test i (length ps))
   any-first f i [] d tested = refl
   any-first f i (p ∷ ps) d tested = go (f i p) (here-of i p ps d (λ n x. f n x ≡ test n) tested) (any-first f (suc i) ps d (next-of i p ps d (λ n x. f n x ≡ test n) tested))
     where

@@ -1,16 +1,18 @@
--- Laws of a list that passes 1 to 8: its positional parameters come first, and no name is that of two nameable parameters.
+-- Laws of a list that passes 1 to 8: its positional parameters come first, no name is that of two nameable parameters, and the names of
+-- nameable parameters lie inside the area.
 -- Assumes nothing.
 use mathlib.Core.Path.{_≡_, refl, sym, ap, _∙_}
 use mathlib.Core.Bool.{Bool, true, false, cond, not, _&&_, _||_, false≢true, true≢false}
 use mathlib.Core.List.{List, [], _∷_, _++_, append-nil}
 use Prim.Native.Nat.{ℕ}
+use lib.Dec.{leb}
 use Rattle.rules.specs.Listing.{all, any}
-use Rattle.rules.specs.Text.{Text, bytesAt, textIn}
+use Rattle.rules.specs.Text.{Text, bytesAt, textIn, sizeOf, inside, isText}
 use Rattle.rules.specs.Answer.{Answer, fine, _then_, ask}
 use Rattle.rules.specs.ParameterRecord.{Step, ParameterRecord, readParameters}
 use Rattle.rules.specs.Parameters.{Style, posOnly, posOrNamed, namedOnly, noMore, ParameterKind, required, optional, defaulted, args, kwargs, Act, adds, slash, bareStar, unknownCode, act, comesBefore, mayStand, nextStyle, Parameter, plain, takesPosition, takesName, positional, nameable, added, addedFrom, parametersOf}
 use Rattle.rules.specs.Lookup.{known}
-use Rattle.rules.specs.ParameterQuestions.{hasRoom, nameIsNew, askStep, askSteps, askParameters, listOf, wholeSteps, codesKnown, namesInside, defaultsRight, countsAgree}
+use Rattle.rules.specs.ParameterQuestions.{hasName, stepName, hasRoom, nameIsNew, askStep, askSteps, askParameters, listOf, wholeSteps, codesKnown, namesInside, defaultsRight, countsAgree}
 use Rattle.rules.proofs.LawsListing.{and-both, and-left, and-right, all-append}
 use Rattle.rules.proofs.LawsAnswer.{then-left, then-right, ask-true, fine-refuse}
 
@@ -131,20 +133,50 @@ module _ (A : ℕ) (area : List ℕ) where
       go bareStar new ih = rw (append-nil before) at ih
       go unknownCode new ih = rw (append-nil before) at ih
 
+-- ---- nameable names lie inside the area
+
+unfoldable pub nameInside : List ℕ → Parameter → Bool
+nameInside area q = not (nameable q) || inside area (q .name .payload)
+
+added-inside : (area : List ℕ) (s : Style) (a : Act) (name : ℕ) → (not (hasName a) || isText 1 area name) ≡ true → all (nameInside area) (added area s a name) ≡ true
+unfolding nameInside nameable textIn isText
+added-inside area s (adds k) name e = go (plain k) (takesName s) (inside area name) (leb 1 (sizeOf name)) (leb (sizeOf name) 64) e
+  where
+    go : (p q i x y : Bool) → (not p || i && x && y) ≡ true → ((not (p && q) || i) && true) ≡ true
+    go false q i x y f = refl
+    go true true true x y f = refl
+    go true false true x y f = refl
+    go true true false x y f = absurd (false≢true f)
+    go true false false x y f = absurd (false≢true f)
+added-inside area s slash name e = refl
+added-inside area s bareStar name e = refl
+added-inside area s unknownCode name e = refl
+
+names-inside : (area : List ℕ) (s : Style) (ts : List Step) → all (stepName area) ts ≡ true → all (nameInside area) (addedFrom area s ts) ≡ true
+unfolding stepName
+names-inside area s [] e = refl
+names-inside area s (t ∷ ts) e =
+    all-append (nameInside area) (added area s (act t) (t .name)) (addedFrom area (nextStyle s (act t)) ts)
+    (added-inside area s (act t) (t .name) (and-left (stepName area t) (all (stepName area) ts) e))
+    (names-inside area (nextStyle s (act t)) ts (and-right (stepName area t) (all (stepName area) ts) e))
+
 -- ---- of a record that passes
 
 module _ (A : ℕ) (cells area : List ℕ) (passes : askParameters A cells area ≡ fine) where
-  pub steps-fine : askSteps A area posOnly [] (readParameters cells .steps) ≡ fine
+  -- 3 to 8 pass
+  from-third : (ask 3 (namesInside area (readParameters cells)) then ask 4 (defaultsRight area (readParameters cells .steps)) then askSteps A area posOnly [] (readParameters cells .steps) then ask 8 (countsAgree (listOf cells area))) ≡ fine
   unfolding askParameters
+  from-third =
+      let rest : Answer = ask 3 (namesInside area (readParameters cells)) then ask 4 (defaultsRight area (readParameters cells .steps)) then askSteps A area posOnly [] (readParameters cells .steps) then ask 8 (countsAgree (listOf cells area)) in
+      then-right (ask 2 (codesKnown (readParameters cells .steps))) rest (then-right (ask 1 (wholeSteps A cells)) (ask 2 (codesKnown (readParameters cells .steps)) then rest) passes)
+
+  pub steps-fine : askSteps A area posOnly [] (readParameters cells .steps) ≡ fine
   steps-fine =
-      let r : ParameterRecord = readParameters cells in
       let last : Answer = ask 8 (countsAgree (listOf cells area)) in
-      let steps : Answer = askSteps A area posOnly [] (r .steps) in
+      let steps : Answer = askSteps A area posOnly [] (readParameters cells .steps) in
       then-left steps last
-      (then-right (ask 4 (defaultsRight area (r .steps))) (steps then last)
-      (then-right (ask 3 (namesInside area r)) (ask 4 (defaultsRight area (r .steps)) then steps then last)
-      (then-right (ask 2 (codesKnown (r .steps))) (ask 3 (namesInside area r) then ask 4 (defaultsRight area (r .steps)) then steps then last)
-      (then-right (ask 1 (wholeSteps A cells)) (ask 2 (codesKnown (r .steps)) then ask 3 (namesInside area r) then ask 4 (defaultsRight area (r .steps)) then steps then last) passes))))
+      (then-right (ask 4 (defaultsRight area (readParameters cells .steps))) (steps then last)
+      (then-right (ask 3 (namesInside area (readParameters cells))) (ask 4 (defaultsRight area (readParameters cells .steps)) then steps then last) from-third))
 
   pub list-positionalFirst : positionalFirst (listOf cells area) ≡ true
   unfolding listOf parametersOf
@@ -153,3 +185,11 @@ module _ (A : ℕ) (cells area : List ℕ) (passes : askParameters A cells area 
   pub list-namesApart : namesApart [] (listOf cells area) ≡ true
   unfolding listOf parametersOf
   list-namesApart = names-apart A area posOnly [] (readParameters cells .steps) steps-fine
+
+  pub list-nameInside : all (nameInside area) (listOf cells area) ≡ true
+  unfolding listOf parametersOf namesInside
+  list-nameInside =
+      names-inside area posOnly (readParameters cells .steps)
+      (and-right (isText 1 area (readParameters cells .function)) (all (stepName area) (readParameters cells .steps))
+      (ask-true 3 (namesInside area (readParameters cells))
+      (then-left (ask 3 (namesInside area (readParameters cells))) (ask 4 (defaultsRight area (readParameters cells .steps)) then askSteps A area posOnly [] (readParameters cells .steps) then ask 8 (countsAgree (listOf cells area))) from-third)))

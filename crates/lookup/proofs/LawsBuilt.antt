@@ -1,0 +1,86 @@
+-- What a lookup means: in columns whose nameable names lie inside the area it is a lookup in the list that they are (`lookup-columns`), and
+-- so in a list that `build` hands out it finds the index of the nameable parameter with these bytes, or none (`lookup-built`).
+-- Before them: a candidate fits where `rules` says that the bytes name it, and so does the first.
+-- Assumes nothing.
+use mathlib.Core.Path.{_≡_, refl, sym, ap, _∙_}
+use mathlib.Core.Bool.{Bool, true, false, cond, not, _&&_, _||_, false≢true}
+use mathlib.Core.List.{List}
+use Prim.Native.Nat.{ℕ, zero, suc, min, _≤_}
+use native.Mathlib.Omega.{arith}
+use lib.ListN.{getD}
+use Rattle.rules.specs.Listing.{all}
+use Rattle.rules.specs.Text.{sameBytes, bytesAt, inside, textIn}
+use Rattle.rules.specs.Lookup.{names, find, findFrom}
+use Rattle.rules.specs.ParameterQuestions.{listOf}
+use Rattle.rules.proofs.LawsListing.{and-left, and-right}
+use Rattle.rules.proofs.LawsParameters.{nameInside, list-nameInside}
+use Rattle.builder.specs.declared.params.Parameters.{Parameters}
+use Rattle.cells.specs.declared.answer.Answer.the-variants.{Fine}
+use Rattle.builder.specs.declared.spec.ParametersSpec.{ParametersSpec}
+use Rattle.builder.specs.declared.spec.Finished.{Finished}
+use Rattle.builder.specs.Listed.{listed}
+use Rattle.builder.specs.Params.{mayBeNamed, parameterOf, parameterAt, parametersIn}
+use Rattle.cells.specs.Answer.{answerOf}
+use Rattle.builder.specs.Build.{Building, IsList}
+use Rattle.builder.proofs.LawsParams.{nameable-at, names-at}
+use Rattle.lookup.specs.declared.Finding.{Finding}
+use Rattle.lookup.specs.declared.Finding.the-variants.{At, Unknown}
+use Rattle.lookup.specs.Lookup.{findingOf, fits, fitsAt, firstAt, findIn}
+
+-- ---- the first that fits
+
+module _ (area bytes : List ℕ) (p : Parameters) where
+  name-inside
+      : (i : ℕ) → nameInside area (parameterAt area p i) ≡ true
+      → not (mayBeNamed (getD (p .codes) i 0) (getD (p .styles) i 0)) || inside area (getD (p .names) i 0) ≡ true
+  unfolding nameInside parameterAt parameterOf textIn
+  name-inside i e = rw (← nameable-at area p i) e
+
+  fits-names
+      : (i : ℕ) → nameInside area (parameterAt area p i) ≡ true
+      → fitsAt area (p .codes) (p .styles) (p .names) bytes i ≡ names bytes (parameterAt area p i)
+  unfolding fitsAt fits nameInside
+  fits-names i e =
+      go (mayBeNamed (getD (p .codes) i 0) (getD (p .styles) i 0)) (inside area (getD (p .names) i 0))
+      (sameBytes bytes (bytesAt area (getD (p .names) i 0)))
+      (name-inside i e)
+      ∙ sym (names-at area bytes p i)
+    where
+      go : (b i s : Bool) → not b || i ≡ true → b && (i && s) ≡ b && s
+      go false i s e = refl
+      go true true s e = refl
+      go true false s e = absurd (false≢true e)
+
+  first-names
+      : (i n : ℕ) → all (nameInside area) (listed (parameterAt area p) i n) ≡ true
+      → findingOf (firstAt (fitsAt area (p .codes) (p .styles) (p .names) bytes) i n) ≡ findFrom i (listed (parameterAt area p) i n) bytes
+  first-names i zero e = refl
+  first-names i (suc n) e =
+      rw (fits-names i (and-left (nameInside area (parameterAt area p i)) (all (nameInside area) (listed (parameterAt area p) (suc i) n)) e))
+      (go (names bytes (parameterAt area p i)) (first-names (suc i) n (and-right (nameInside area (parameterAt area p i)) (all (nameInside area) (listed (parameterAt area p) (suc i) n)) e)))
+    where
+      go : (b : Bool)
+          → findingOf (firstAt (fitsAt area (p .codes) (p .styles) (p .names) bytes) (suc i) n) ≡ findFrom (suc i) (listed (parameterAt area p) (suc i) n) bytes
+          → findingOf (cond b (At i) (firstAt (fitsAt area (p .codes) (p .styles) (p .names) bytes) (suc i) n))
+          ≡ cond b (Rattle.rules.specs.Lookup.at i) (findFrom (suc i) (listed (parameterAt area p) (suc i) n) bytes)
+      go true r = refl
+      go false r = r
+
+  -- a lookup in columns whose nameable names lie inside the area is one in the list that they are
+  pub lookup-columns
+      : p .len ≤ 64 → all (nameInside area) (parametersIn area p) ≡ true
+      → findingOf (findIn area (p .codes) (p .styles) (p .names) (p .len) bytes) ≡ find (parametersIn area p) bytes
+  unfolding findIn find parametersIn
+  lookup-columns room e =
+      let m : min (p .len) 64 ≡ p .len = omega arith in
+      rw m (first-names 0 (p .len) e)
+
+-- a lookup in a list that is built is a lookup in the list that the record describes
+pub lookup-built
+    : (cells area bytes : List ℕ) (r : Finished) → Building cells area r → r .answer ≡ Fine
+    → findingOf (findIn area (r .list .params .codes) (r .list .params .styles) (r .list .params .names) (r .list .params .len) bytes)
+    ≡ find (listOf cells area) bytes
+lookup-built cells area bytes r b e =
+    let is = b .fine e in
+    lookup-columns area bytes (r .list .params) (is .room) (rw (is .parameters) (list-nameInside 64 cells area (sym (b .answer) ∙ ap answerOf e)))
+    ∙ ap (λ qs. find qs bytes) (is .parameters)

@@ -1,0 +1,109 @@
+-- Laws of a search for a name, in this order: the first index that passes a test, as a loop asks for it; what each test on a candidate
+-- says; the bytes left to compare. Assumes nothing.
+use mathlib.Core.Path.{_≡_, refl, sym, ap, _∙_}
+use mathlib.Core.Bool.{Bool, true, false, cond, not, _&&_, and-false}
+use mathlib.Core.List.{List, [], _∷_}
+use Prim.Native.Nat.{ℕ, zero, suc, _+_, _-_, _/_, _%_, _<_, _≤_}
+use native.Mathlib.Numerals.{add-one}
+use native.Mathlib.Omega.{arith}
+use lib.Dec.{leb}
+use lib.ListN.{length, take, drop, getD, length-drop, drop-of-length-le}
+use lib.Seq.{length-take-le, getD-take, getD-drop}
+use borrow.Author.Tests.{le-leb, lt-leb}
+use Rattle.rules.specs.Text.{sameBytes, bytesAt, inside, startOf, sizeOf}
+use Rattle.cells.proofs.LawsText.{sameBytes-length, sameBytes-differs, sameBytes-next}
+use Rattle.builder.specs.Params.{mayBeNamed}
+use Rattle.lookup.specs.declared.Finding.{Finding}
+use Rattle.lookup.specs.declared.Finding.the-variants.{At, Unknown}
+use Rattle.lookup.specs.Lookup.{fits, firstAt}
+
+-- ---- from index i on, of n
+
+module _ (test : ℕ → Bool) (i n : ℕ) where
+  pub firstAt-hit : i < n → test i ≡ true → firstAt test i (n - i) ≡ At i
+  firstAt-hit h e =
+      let m : n - i ≡ suc (n - (i + 1)) = omega arith in
+      rw (m, e)
+
+  pub firstAt-miss : i < n → test i ≡ false → firstAt test i (n - i) ≡ firstAt test (i + 1) (n - (i + 1))
+  firstAt-miss h e =
+      let m : n - i ≡ suc (n - (i + 1)) = omega arith in
+      rw (m, e, add-one)
+
+  pub firstAt-end : n ≤ i → firstAt test i (n - i) ≡ Unknown
+  firstAt-end h =
+      let m : n - i ≡ 0 = omega arith in
+      rw m
+
+length-part : (area : List ℕ) (start size : ℕ) → start + size ≤ length area → length (take size (drop start area)) ≡ size
+length-part area start size h = length-take-le size (drop start area) (simp length-drop (omega arith))
+
+-- ---- a candidate
+
+module _ (area : List ℕ) (name : ℕ) where
+  outside-start : 65535 < name / 256 → inside area name ≡ false
+  unfolding inside startOf
+  outside-start h = rw (lt-leb (name / 256) 65535 h)
+
+  outside-end : length area < name / 256 + name % 256 → inside area name ≡ false
+  unfolding inside startOf sizeOf
+  outside-end h = rw (lt-leb (name / 256 + name % 256) (length area) h) (and-false (leb (name / 256) 65535))
+
+  inside-both : name / 256 ≤ 65535 → name / 256 + name % 256 ≤ length area → inside area name ≡ true
+  unfolding inside startOf sizeOf
+  inside-both s e = rw (le-leb (name / 256) 65535 s, le-leb (name / 256 + name % 256) (length area) e)
+
+module _ (area bytes : List ℕ) (code style name : ℕ) where
+  pub fits-style : mayBeNamed code style ≡ false → fits area bytes code style name ≡ false
+  unfolding fits
+  fits-style e = rw e
+
+  fits-outside : inside area name ≡ false → fits area bytes code style name ≡ false
+  unfolding fits
+  fits-outside e = rw e (and-false (mayBeNamed code style))
+
+  pub fits-start : 65535 < name / 256 → fits area bytes code style name ≡ false
+  fits-start h = fits-outside (outside-start area name h)
+
+  pub fits-end : length area < name / 256 + name % 256 → fits area bytes code style name ≡ false
+  fits-end h = fits-outside (outside-end area name h)
+
+  -- a nameable candidate whose name lies inside the area is judged by its bytes
+  module _ (m : mayBeNamed code style ≡ true) (s : name / 256 ≤ 65535) (e : name / 256 + name % 256 ≤ length area) where
+    pub fits-bytes : fits area bytes code style name ≡ sameBytes bytes (take (name % 256) (drop (name / 256) area))
+    unfolding fits bytesAt startOf sizeOf
+    fits-bytes = rw (m, inside-both area name s e)
+
+    pub fits-size : (length bytes ≡ name % 256 → ⊥) → fits area bytes code style name ≡ false
+    fits-size n =
+        fits-bytes
+        ∙ sameBytes-length bytes (take (name % 256) (drop (name / 256) area)) (λ l. n (l ∙ length-part area (name / 256) (name % 256) e))
+
+-- ---- the bytes of a candidate, from byte j on
+
+module _ (area bytes : List ℕ) (start size j : ℕ) (e : start + size ≤ length area) (l : length bytes ≡ size) (h : j < size) where
+  part-at : getD (take size (drop start area)) j 0 ≡ getD area (start + j) 0
+  part-at = rw (getD-take, getD-drop)
+
+  pub bytes-differ
+      : (getD bytes j 0 ≡ getD area (start + j) 0 → ⊥)
+      → sameBytes (drop j bytes) (drop j (take size (drop start area))) ≡ false
+  bytes-differ n =
+      sameBytes-differs bytes (take size (drop start area)) j (omega arith)
+      (rw (length-part area start size e) h) (λ d. n (d ∙ part-at))
+
+  pub bytes-next
+      : getD bytes j 0 ≡ getD area (start + j) 0
+      → sameBytes (drop j bytes) (drop j (take size (drop start area)))
+      ≡ sameBytes (drop (j + 1) bytes) (drop (j + 1) (take size (drop start area)))
+  bytes-next d =
+      rw add-one
+      (sameBytes-next bytes (take size (drop start area)) j (omega arith) (rw (length-part area start size e) h) (d ∙ sym part-at))
+
+pub bytes-end
+    : (area bytes : List ℕ) (start size j : ℕ) → start + size ≤ length area → length bytes ≡ size → size ≤ j
+    → sameBytes (drop j bytes) (drop j (take size (drop start area))) ≡ true
+bytes-end area bytes start size j e l h =
+    let b : length bytes ≤ j = omega arith in
+    let p : length (take size (drop start area)) ≤ j = rw (length-part area start size e) h in
+    rw (drop-of-length-le bytes b, drop-of-length-le (take size (drop start area)) p)

@@ -1,0 +1,265 @@
+use mathlib.Core.Path.{_≡_, refl, sym, _∙_}
+use Prim.Native.Nat.{_+_, _-_, _/_, _%_, _≤_}
+use native.Mathlib.Nat.{sub-zero}
+use native.Mathlib.Omega.{arith}
+use lib.ListN.{take, drop, getD}
+use borrow.Author.Tests.{not-true, not-false}
+use Rattle.rules.specs.Text.{sameBytes}
+use Rattle.lookup.specs.Lookup.{fitsAt, firstAt, findIn}
+use Rattle.lookup.proofs.LawsFind.{firstAt-hit, firstAt-miss, firstAt-end, fits-style, fits-start, fits-end, fits-size, fits-bytes, bytes-differ, bytes-next, bytes-end}
+use borrow.Author.Needs.{needs}
+use Rattle.lookup.proofs.find.Statement.{statement}
+use Rattle.lookup.proofs.find.Tie as tie
+use Rattle.lookup.proofs.find.Reads as reads
+use Rattle.lookup.proofs.find.Lts as lts
+use Rattle.builder.proofs.params.nameable.Reads as nameable-reads
+use Rattle.lookup.proofs.held.Reads as held-reads
+
+abbrev Inv-loop : tie.InvT-loop
+Inv-loop area codes styles names len name count i at start size j₀ j =
+    (j ≤ size)
+    × (sameBytes name (take size (drop start area)) ≡ sameBytes (drop j name) (drop j (take size (drop start area))))
+
+abbrev μ-loop : tie.MeasureT-loop
+μ-loop area codes styles names len name count i at start size j₀ j = size - j
+
+abbrev Inv-candidates : tie.InvT-candidates
+Inv-candidates area codes styles names len name count i₀ i =
+    (i ≤ count)
+    × (findIn area codes styles names len name ≡ firstAt (fitsAt area codes styles names name) i (count - i))
+
+abbrev μ-candidates : tie.MeasureT-candidates
+μ-candidates area codes styles names len name count i₀ i = count - i
+
+-- src/lib.rt:29:9
+held-requires : tie.Need-held-requires Inv-loop μ-loop Inv-candidates μ-candidates
+held-requires c κs = search needs
+
+-- src/lib.rt:31:5
+candidates-holds : tie.Need-candidates-holds Inv-loop μ-loop Inv-candidates μ-candidates
+unfolding findIn
+candidates-holds c = (search needs, rw (sub-zero, c .held .ensures))
+
+-- src/lib.rt:33:9
+add-i : tie.Need-add-i Inv-loop μ-loop Inv-candidates μ-candidates
+add-i c = search needs
+
+-- src/lib.rt:34:22
+mul-nameable : tie.Need-mul-nameable Inv-loop μ-loop Inv-candidates μ-candidates
+mul-nameable c = search needs
+
+-- src/lib.rt:34:22
+element-copy-out-nameable :
+    tie.Need-element-copy-out-nameable Inv-loop μ-loop Inv-candidates μ-candidates
+element-copy-out-nameable c = omega (arith, c .before .before .held .ensures)
+
+-- src/lib.rt:34:33
+mul-nameable-2 : tie.Need-mul-nameable-2 Inv-loop μ-loop Inv-candidates μ-candidates
+mul-nameable-2 c = search needs
+
+-- src/lib.rt:34:33
+element-copy-out-nameable-2 :
+    tie.Need-element-copy-out-nameable-2 Inv-loop μ-loop Inv-candidates μ-candidates
+element-copy-out-nameable-2 c = omega (arith, c .before .before .before .held .ensures)
+
+-- src/lib.rt:34:13
+nameable-requires : tie.Need-nameable-requires Inv-loop μ-loop Inv-candidates μ-candidates
+nameable-requires c κs = search needs
+
+-- src/lib.rt:31:5
+candidates-less : tie.Need-candidates-less Inv-loop μ-loop Inv-candidates μ-candidates
+candidates-less c = search needs
+
+-- src/lib.rt:31:5
+candidates-again : tie.Need-candidates-again Inv-loop μ-loop Inv-candidates μ-candidates
+unfolding fitsAt
+candidates-again c =
+    let a = c .before .before .before .before .before .before .before .before .before .args in
+    let i = c .before .before .before .before .before .candidates .i in (
+      search needs,
+      c .before .before .before .before .before .candidates .inv .1
+          ∙ firstAt-miss (fitsAt (a .area .now) (a .codes .now) (a .styles .now) (a .names .now) (a .name .now)) i (c .before .before .before .before .before .before .held .result) (c .before .before .before .before .candidates-test .taken)
+          (fits-style (a .area .now) (a .name .now) (getD (a .codes .now) i 0) (getD (a .styles .now) i 0) (getD (a .names .now) i 0) (sym (c .before .nameable .ensures) ∙ not-true _ (c .if1 .taken))),
+    )
+
+-- src/lib.rt:37:22
+mul-start : tie.Need-mul-start Inv-loop μ-loop Inv-candidates μ-candidates
+mul-start c = search needs
+
+-- src/lib.rt:37:22
+element-copy-out-start :
+    tie.Need-element-copy-out-start Inv-loop μ-loop Inv-candidates μ-candidates
+element-copy-out-start c = omega (arith, c .before .before .before .before .before .before .held .ensures)
+
+-- src/lib.rt:38:21
+mul-size : tie.Need-mul-size Inv-loop μ-loop Inv-candidates μ-candidates
+mul-size c = search needs
+
+-- src/lib.rt:38:21
+element-copy-out-size : tie.Need-element-copy-out-size Inv-loop μ-loop Inv-candidates μ-candidates
+element-copy-out-size c = search needs
+
+-- src/lib.rt:31:5
+candidates-less-2 : tie.Need-candidates-less-2 Inv-loop μ-loop Inv-candidates μ-candidates
+candidates-less-2 c = search needs
+
+-- src/lib.rt:31:5
+candidates-again-2 : tie.Need-candidates-again-2 Inv-loop μ-loop Inv-candidates μ-candidates
+unfolding fitsAt
+candidates-again-2 c =
+    let a = c .before .before .before .before .before .before .before .before .before .before .before .before .args in
+    let i = c .before .before .before .before .before .before .before .before .candidates .i in (
+      search needs,
+      c .before .before .before .before .before .before .before .before .candidates .inv .1
+          ∙ firstAt-miss (fitsAt (a .area .now) (a .codes .now) (a .styles .now) (a .names .now) (a .name .now)) i (c .before .before .before .before .before .before .before .before .before .held .result) (c .before .before .before .before .before .before .before .candidates-test .taken)
+          (fits-start (a .area .now) (a .name .now) (getD (a .codes .now) i 0) (getD (a .styles .now) i 0) (getD (a .names .now) i 0) (c .if2 .taken)),
+    )
+
+-- src/lib.rt:42:25
+add-if3 : tie.Need-add-if3 Inv-loop μ-loop Inv-candidates μ-candidates
+add-if3 c = search needs
+
+-- src/lib.rt:31:5
+candidates-less-3 : tie.Need-candidates-less-3 Inv-loop μ-loop Inv-candidates μ-candidates
+candidates-less-3 c = search needs
+
+-- src/lib.rt:31:5
+candidates-again-3 : tie.Need-candidates-again-3 Inv-loop μ-loop Inv-candidates μ-candidates
+unfolding fitsAt
+candidates-again-3 c =
+    let a = c .before .before .before .before .before .before .before .before .before .before .before .before .before .args in
+    let i = c .before .before .before .before .before .before .before .before .before .candidates .i in (
+      search needs,
+      c .before .before .before .before .before .before .before .before .before .candidates .inv .1
+          ∙ firstAt-miss (fitsAt (a .area .now) (a .codes .now) (a .styles .now) (a .names .now) (a .name .now)) i (c .before .before .before .before .before .before .before .before .before .before .held .result) (c .before .before .before .before .before .before .before .before .candidates-test .taken)
+          (fits-end (a .area .now) (a .name .now) (getD (a .codes .now) i 0) (getD (a .styles .now) i 0) (getD (a .names .now) i 0) (c .if3 .taken)),
+    )
+
+-- src/lib.rt:31:5
+candidates-less-4 : tie.Need-candidates-less-4 Inv-loop μ-loop Inv-candidates μ-candidates
+candidates-less-4 c = search needs
+
+-- src/lib.rt:31:5
+candidates-again-4 : tie.Need-candidates-again-4 Inv-loop μ-loop Inv-candidates μ-candidates
+unfolding fitsAt
+candidates-again-4 c =
+    let a = c .before .before .before .before .before .before .before .before .before .before .before .before .before .before .args in
+    let i = c .before .before .before .before .before .before .before .before .before .before .candidates .i in (
+      search needs,
+      c .before .before .before .before .before .before .before .before .before .before .candidates .inv .1
+          ∙ firstAt-miss (fitsAt (a .area .now) (a .codes .now) (a .styles .now) (a .names .now) (a .name .now)) i (c .before .before .before .before .before .before .before .before .before .before .before .held .result) (c .before .before .before .before .before .before .before .before .before .candidates-test .taken)
+          (fits-size (a .area .now) (a .name .now) (getD (a .codes .now) i 0) (getD (a .styles .now) i 0) (getD (a .names .now) i 0) (sym (c .before .before .before .before .before .before .nameable .ensures) ∙ not-false _ (c .before .before .before .before .before .if1 .left)) (c .before .before .if2 .left) (c .before .if3 .left) (c .if4 .taken)),
+    )
+
+-- src/lib.rt:49:9
+loop-holds : tie.Need-loop-holds Inv-loop μ-loop Inv-candidates μ-candidates
+loop-holds c = (search needs, refl)
+
+-- src/lib.rt:50:16
+shared-slice-read-if5 : tie.Need-shared-slice-read-if5 Inv-loop μ-loop Inv-candidates μ-candidates
+shared-slice-read-if5 c = search needs
+
+-- src/lib.rt:50:32
+add-if5 : tie.Need-add-if5 Inv-loop μ-loop Inv-candidates μ-candidates
+add-if5 c = search needs
+
+-- src/lib.rt:50:27
+shared-slice-read-if5-2 :
+    tie.Need-shared-slice-read-if5-2 Inv-loop μ-loop Inv-candidates μ-candidates
+shared-slice-read-if5-2 c = omega (arith, c .before .before .before .before .before .if3 .left, c .before .before .loop-test .taken)
+
+-- src/lib.rt:31:5
+candidates-less-5 : tie.Need-candidates-less-5 Inv-loop μ-loop Inv-candidates μ-candidates
+candidates-less-5 c = search needs
+
+-- src/lib.rt:31:5
+candidates-again-5 : tie.Need-candidates-again-5 Inv-loop μ-loop Inv-candidates μ-candidates
+unfolding fitsAt
+candidates-again-5 c =
+    let a = c .before .before .before .before .before .before .before .before .before .before .before .before .before .before .before .before .before .before .before .args in
+    let i = c .before .before .before .before .before .before .before .before .before .before .before .before .before .before .before .candidates .i in (
+      search needs,
+      c .before .before .before .before .before .before .before .before .before .before .before .before .before .before .before .candidates .inv .1
+          ∙ firstAt-miss (fitsAt (a .area .now) (a .codes .now) (a .styles .now) (a .names .now) (a .name .now)) i (c .before .before .before .before .before .before .before .before .before .before .before .before .before .before .before .before .held .result) (c .before .before .before .before .before .before .before .before .before .before .before .before .before .before .candidates-test .taken)
+          (fits-bytes (a .area .now) (a .name .now) (getD (a .codes .now) i 0) (getD (a .styles .now) i 0) (getD (a .names .now) i 0) (sym (c .before .before .before .before .before .before .before .before .before .before .before .nameable .ensures) ∙ not-false _ (c .before .before .before .before .before .before .before .before .before .before .if1 .left)) (c .before .before .before .before .before .before .before .if2 .left) (c .before .before .before .before .before .before .if3 .left)
+          ∙ c .before .before .before .before .loop .inv .1
+          ∙ bytes-differ (a .area .now) (a .name .now) (getD (a .names .now) i 0 / 256) (getD (a .names .now) i 0 % 256) (c .before .before .before .before .loop .j) (c .before .before .before .before .before .before .if3 .left) (c .before .before .before .before .before .if4 .left) (c .before .before .before .loop-test .taken) (c .if5 .taken)),
+    )
+
+-- src/lib.rt:53:13
+add-j : tie.Need-add-j Inv-loop μ-loop Inv-candidates μ-candidates
+add-j c = search needs
+
+-- src/lib.rt:49:9
+loop-less : tie.Need-loop-less Inv-loop μ-loop Inv-candidates μ-candidates
+loop-less c = search needs
+
+-- src/lib.rt:49:9
+loop-again : tie.Need-loop-again Inv-loop μ-loop Inv-candidates μ-candidates
+loop-again c =
+    let a = c .before .before .before .before .before .before .before .before .before .before .before .before .before .before .before .before .before .before .before .args in
+    let i = c .before .before .before .before .before .before .before .before .before .before .before .before .before .before .before .candidates .i in (
+      search needs,
+      c .before .before .before .before .loop .inv .1
+          ∙ bytes-next (a .area .now) (a .name .now) (getD (a .names .now) i 0 / 256) (getD (a .names .now) i 0 % 256) (c .before .before .before .before .loop .j) (c .before .before .before .before .before .before .if3 .left) (c .before .before .before .before .before .if4 .left) (c .before .before .before .loop-test .taken) (c .if5 .left),
+    )
+
+-- src/lib.rt:55:9
+returns : tie.Need-returns Inv-loop μ-loop Inv-candidates μ-candidates
+unfolding fitsAt
+returns c =
+    let a = c .before .before .before .before .before .before .before .before .before .before .before .before .before .before .before .before .args in
+    let i = c .before .before .before .before .before .before .before .before .before .before .before .before .candidates .i in
+    sym
+    (c .before .before .before .before .before .before .before .before .before .before .before .before .candidates .inv .1
+    ∙ firstAt-hit (fitsAt (a .area .now) (a .codes .now) (a .styles .now) (a .names .now) (a .name .now)) i (c .before .before .before .before .before .before .before .before .before .before .before .before .before .held .result) (c .before .before .before .before .before .before .before .before .before .before .before .candidates-test .taken)
+    (fits-bytes (a .area .now) (a .name .now) (getD (a .codes .now) i 0) (getD (a .styles .now) i 0) (getD (a .names .now) i 0) (sym (c .before .before .before .before .before .before .before .before .nameable .ensures) ∙ not-false _ (c .before .before .before .before .before .before .before .if1 .left)) (c .before .before .before .before .if2 .left) (c .before .before .before .if3 .left)
+    ∙ c .before .loop .inv .1
+    ∙ bytes-end (a .area .now) (a .name .now) (getD (a .names .now) i 0 / 256) (getD (a .names .now) i 0 % 256) (c .before .loop .j) (c .before .before .before .if3 .left) (c .before .before .if4 .left) (c .loop-test .left)))
+
+-- src/lib.rt:26:1
+returns-2 : tie.Need-returns-2 Inv-loop μ-loop Inv-candidates μ-candidates
+returns-2 c =
+    let a = c .before .before .before .before .before .args in
+    sym (c .before .candidates .inv .1 ∙ firstAt-end (fitsAt (a .area .now) (a .codes .now) (a .styles .now) (a .names .now) (a .name .now)) (c .before .candidates .i) (c .before .before .held .result) (c .candidates-test .left))
+
+pub find-spec : {M : Type 1} → statement M
+find-spec =
+    tie.close
+    (tie.spec
+    Inv-loop
+    μ-loop
+    Inv-candidates
+    μ-candidates
+    held-requires
+    candidates-holds
+    add-i
+    mul-nameable
+    element-copy-out-nameable
+    mul-nameable-2
+    element-copy-out-nameable-2
+    nameable-requires
+    candidates-less
+    candidates-again
+    mul-start
+    element-copy-out-start
+    mul-size
+    element-copy-out-size
+    candidates-less-2
+    candidates-again-2
+    add-if3
+    candidates-less-3
+    candidates-again-3
+    candidates-less-4
+    candidates-again-4
+    loop-holds
+    shared-slice-read-if5
+    add-if5
+    shared-slice-read-if5-2
+    candidates-less-5
+    candidates-again-5
+    add-j
+    loop-less
+    loop-again
+    returns
+    returns-2)

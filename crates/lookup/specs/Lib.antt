@@ -1,0 +1,2 @@
+-- What looking up a name answers.
+pub mod Lookup

@@ -1,0 +1,81 @@
+// Name lookup (01, "Name lookup: `SymbolMap`"): the index of the nameable parameter with these bytes, or none. The hash table is a plain
+// search. Reworked from starlark 0.14.2, src/collections/symbol/map.rs, Apache-2.0.
+use builder::params::CAPACITY;
+use builder::params::nameable;
+use builder::spec::ParametersSpec;
+ghost use mathlib.Core.Path.{_≡_};
+ghost use Prim.Native.Nat.{min};
+ghost use Rattle.lookup.specs.Lookup.{findIn};
+
+pub enum Finding {
+    At(usize),
+    Unknown,
+}
+
+// SymbolMap::get_str, over a finished list and the area that its names lie in.
+pub fn get_str(list: ParametersSpec, area: &[u8], name: &[u8]) -> Finding
+    ensures { λ r. ⌜ r ≡ findIn (now (area .entry)) (list .params .codes) (list .params .styles) (list .params .names) (list .params .len) (now (name .entry)) ⌝ }
+{
+    let params = list.params;
+    find(
+        area,
+        &params.codes,
+        &params.styles,
+        &params.names,
+        params.len,
+        name,
+    )
+}
+
+// The same over the columns, lent. A candidate is dropped at its first differing byte and the next one tried; one whose name does not lie
+// inside the area fits nothing.
+pub fn find<'a, 'b>(
+    area: &'a [u8],
+    codes: &'a [u64; CAPACITY],
+    styles: &'a [u64; CAPACITY],
+    names: &'a [u64; CAPACITY],
+    len: usize,
+    name: &'b [u8],
+) -> Finding
+    ensures { λ r. ⌜ r ≡ findIn (now (area .entry)) (now (codes .entry)) (now (styles .entry)) (now (names .entry)) len (now (name .entry)) ⌝ }
+{
+    let count = held(len);
+    let mut i = 0;
+    'candidates: while i < count {
+        let at = i;
+        i += 1;
+        if !nameable(codes[at], styles[at]) {
+            continue;
+        }
+        let start = (names[at] / 256) as usize;
+        let size = (names[at] % 256) as usize;
+        if 65535 < start {
+            continue;
+        }
+        if area.len() < start + size {
+            continue;
+        }
+        if name.len() != size {
+            continue;
+        }
+        let mut j = 0;
+        while j < size {
+            if name[j] != area[start + j] {
+                continue 'candidates;
+            }
+            j += 1;
+        }
+        return Finding::At(at);
+    }
+    Finding::Unknown
+}
+
+// How many of `len` parameters the columns hold.
+fn held(len: usize) -> usize
+    ensures { λ r. ⌜ r ≡ min len 64 ⌝ }
+{
+    if len < CAPACITY {
+        return len;
+    }
+    CAPACITY
+}
