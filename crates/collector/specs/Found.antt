@@ -5,12 +5,6 @@ use mathlib.Core.Option.{Option, none, some}
 use Prim.Native.Nat.{ℕ, zero, suc}
 use lib.Dec.{eqb}
 use lib.ListN.{getD}
-use Rattle.collector.specs.declared.found.Index.{Index}
-use Rattle.collector.specs.declared.found.Index.the-variants.{At, Absent}
-
-abbrev pub indexOf : Index → Option ℕ
-indexOf (At k) = some k
-indexOf Absent = none
 
 -- the first of `count` indices from k on that passes a test
 abbrev pub firstIndex : (ℕ → Bool) → ℕ → ℕ → Option ℕ

@@ -2,3 +2,4 @@
 pub mod Answer
 pub mod Found
 pub mod Resolved
+pub mod Resolve

@@ -22,4 +22,6 @@ namedAt area cells at = namedIn area (readPair (drop at cells))
 pub record Resolved (qs : List Parameter) (cells area : List ℕ) (N : List Named) (sources rest : List ℕ) (count : ℕ) : Type 0 where
   pub sources-are : (k : ℕ) (d : Parameter) → k < length qs → partner (getD qs k d) N ≡ sourceValue cells (getD sources k 0)
   pub rest-is : namedRemainder qs N ≡ map (namedAt area cells) (take count rest)
-  pub in-rest : count ≤ length rest
+  pub in-rest : count ≤ length N
+  pub slots : length sources ≡ 64
+  pub pairs : length rest ≡ 128

@@ -1,15 +1,11 @@
 // What the names of a call fill, looked at by index: the first slot that is both filled by position and named (16), and the first
 // required one that is neither (20 to 22). `sources` has for each parameter the cell of the value that a name gives it, 0 where none
 // does: cell 0 of a call record is a count, so no value stands there.
+use builder::spec::Index;
 ghost use mathlib.Core.Path.{_≡_};
 ghost use Prim.Native.Nat.{_-_, _≤_};
-ghost use Rattle.collector.specs.Found.{indexOf, firstNamed, firstMissing};
-
-// A parameter's index, where there is such a parameter.
-pub enum Index {
-    At(usize),
-    Absent,
-}
+ghost use Rattle.collector.specs.Found.{firstNamed, firstMissing};
+ghost use Rattle.builder.specs.Spec.{indexOf};
 
 // The first of the slots below `next` that is named.
 pub fn first_named(sources: &[usize; 64], next: usize) -> Index

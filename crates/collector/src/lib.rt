@@ -4,3 +4,4 @@
 pub mod answer;
 pub mod detail;
 pub mod found;
+pub mod resolve;

@@ -13,7 +13,8 @@ use Rattle.rules.specs.Text.{sameBytes, bytesAt, inside, textIn}
 use Rattle.rules.specs.Lookup.{names, find, findFrom}
 use Rattle.rules.specs.ParameterQuestions.{listOf}
 use Rattle.rules.proofs.LawsListing.{and-left, and-right}
-use Rattle.rules.proofs.LawsParameters.{nameInside, list-nameInside}
+use Rattle.rules.specs.Passed.{nameInside}
+use Rattle.rules.proofs.LawsParameters.{list-nameInside}
 use Rattle.builder.specs.declared.params.Parameters.{Parameters}
 use Rattle.cells.specs.declared.answer.Answer.the-variants.{Fine}
 use Rattle.builder.specs.declared.spec.ParametersSpec.{ParametersSpec}

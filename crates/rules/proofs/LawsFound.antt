@@ -21,7 +21,7 @@ use Rattle.rules.specs.Placement.{fromP, partner, namedRemainder}
 use Rattle.rules.specs.Binding.{textsOf, namedBy, namesFilled}
 use Rattle.rules.proofs.LawsListing.{and-left, and-right, not-yes, or-left, or-right, or-neither, same-test}
 use Rattle.rules.proofs.LawsText.{sameBytes-eq, eq-sameBytes}
-use Rattle.rules.proofs.LawsParameters.{positionalFirst, namesApart}
+use Rattle.rules.specs.Passed.{positionalFirst, namesApart}
 use Rattle.rules.proofs.LawsPlacement.{name-apart, known-snoc, names-bytes}
 
 -- ---- a finding

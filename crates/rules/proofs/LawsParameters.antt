@@ -13,14 +13,11 @@ use Rattle.rules.specs.ParameterRecord.{Step, ParameterRecord, readParam
 use Rattle.rules.specs.Parameters.{Style, posOnly, posOrNamed, namedOnly, noMore, ParameterKind, required, optional, defaulted, args, kwargs, Act, adds, slash, bareStar, unknownCode, act, comesBefore, mayStand, nextStyle, Parameter, plain, takesPosition, takesName, positional, nameable, added, addedFrom, parametersOf}
 use Rattle.rules.specs.Lookup.{known}
 use Rattle.rules.specs.ParameterQuestions.{hasName, stepName, hasRoom, nameIsNew, askStep, askSteps, askParameters, listOf, wholeSteps, codesKnown, namesInside, defaultsRight, countsAgree}
+use Rattle.rules.specs.Passed.{positionalFirst, namesApart, nameInside}
 use Rattle.rules.proofs.LawsListing.{and-both, and-left, and-right, all-append}
 use Rattle.rules.proofs.LawsAnswer.{then-left, then-right, ask-true, fine-refuse}
 
 -- ---- the positional parameters come first
-
-abbrev pub positionalFirst : List Parameter → Bool
-positionalFirst [] = true
-positionalFirst (q ∷ qs) = cond (positional q) (positionalFirst qs) (all (λ p. not (positional p)) qs)
 
 none-first : (qs : List Parameter) → all (λ p. not (positional p)) qs ≡ true → positionalFirst qs ≡ true
 none-first [] e = refl
@@ -110,11 +107,6 @@ module _ (A : ℕ) (area : List ℕ) where
 
 -- ---- no name is that of two nameable parameters
 
--- each nameable parameter's name is new among those before it
-abbrev pub namesApart : List Parameter → List Parameter → Bool
-namesApart before [] = true
-namesApart before (q ∷ qs) = (not (nameable q) || not (known before (q .name .bytes))) && namesApart (before ++ (q ∷ [])) qs
-
 module _ (A : ℕ) (area : List ℕ) where
   names-apart : (s : Style) (before : List Parameter) (ts : List Step) → askSteps A area s before ts ≡ fine → namesApart before (addedFrom area s ts) ≡ true
   unfolding nameable textIn
@@ -134,9 +126,6 @@ module _ (A : ℕ) (area : List ℕ) where
       go unknownCode new ih = rw (append-nil before) at ih
 
 -- ---- nameable names lie inside the area
-
-unfoldable pub nameInside : List ℕ → Parameter → Bool
-nameInside area q = not (nameable q) || inside area (q .name .payload)
 
 added-inside : (area : List ℕ) (s : Style) (a : Act) (name : ℕ) → (not (hasName a) || isText 1 area name) ≡ true → all (nameInside area) (added area s a name) ≡ true
 unfolding nameInside nameable textIn isText

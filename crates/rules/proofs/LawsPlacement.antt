@@ -22,7 +22,7 @@ use Rattle.rules.specs.Placement.{Slot, taken, isTaken, otherwise, taken
 use Rattle.rules.specs.Binding.{textsOf, namedBy}
 use Rattle.rules.proofs.LawsListing.{and-left, and-right, and-both, or-left, or-right, or-neither, not-yes, any-append, tally-keep}
 use Rattle.rules.proofs.LawsText.{sameBytes-eq, eq-sameBytes}
-use Rattle.rules.proofs.LawsParameters.{positionalFirst, namesApart}
+use Rattle.rules.specs.Passed.{positionalFirst, namesApart}
 
 -- how many elements pass a test at their index, counted from i
 abbrev tallyFrom : {X : Type 0} → (ℕ → X → Bool) → ℕ → List X → ℕ

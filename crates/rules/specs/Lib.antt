@@ -9,6 +9,7 @@ pub mod CallRecord
 pub mod Parameters
 pub mod Lookup
 pub mod ParameterQuestions
+pub mod Passed
 pub mod Placement
 pub mod Board
 pub mod CallQuestions
