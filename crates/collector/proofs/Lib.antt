@@ -3,3 +3,4 @@ pub mod LawsIndex
 pub mod LawsResolved
 pub mod LawsAsked
 pub mod LawsBoard
+pub mod LawsNames

@@ -18,7 +18,7 @@ use Rattle.builder.specs.declared.spec.ParametersSpec.{ParametersSpec}
 use Rattle.lookup.specs.declared.Finding.{Finding}
 use Rattle.lookup.specs.declared.Finding.the-variants.{At, Unknown}
 use Rattle.lookup.specs.Lookup.{findIn}
-use Rattle.collector.specs.Resolved.{namedAt}
+use Rattle.collector.specs.Resolved.{namedAt, Resolved}
 
 unfoldable pub foundAt : List ℕ → ParametersSpec → List ℕ → List ℕ → ℕ → Finding
 foundAt spec l area cells pair =
@@ -57,3 +57,10 @@ pub record Pairs (area cells : List ℕ) (from count : ℕ) : Type 0 where
   pub few : count ≤ 64
   pub near : from ≤ 1024
   pub names-inside : (k : ℕ) → k < count → textInside area (pairAt cells (from + 4 * k) .payload) ≡ true
+
+-- written pairs against a prepared list, with nothing resolved yet
+pub record Naming (spec : List ℕ) (l : ParametersSpec) (cells area : List ℕ) (from count : ℕ) (sources rest : List ℕ) : Type 0 where
+  pub list : Prepared spec l
+  pub pairs : Pairs area cells from count
+  pub apart : differ (textsOf (pairsFrom area cells from count)) ≡ true
+  pub empty : Resolved (parametersIn spec (l .params)) cells area [] sources rest 0

@@ -8,7 +8,9 @@ use lookup::Finding;
 use lookup::get_str;
 ghost use mathlib.Core.Path.{_≡_};
 ghost use Prim.Native.Nat.{_+_, _*_, _<_, _≤_, _^_};
-ghost use Rattle.collector.specs.Resolve.{Below, foundAt, sourcesAfter, restAfter, countAfter};
+ghost use Rattle.collector.specs.Resolve.{Below, foundAt, sourcesAfter, restAfter, countAfter, pairsFrom, Naming};
+ghost use Rattle.collector.specs.Resolved.{Resolved};
+ghost use Rattle.builder.specs.Params.{parametersIn};
 
 // The pairs of N, at most 64 written and 64 entries.
 pub const NAMED: usize = 128;
@@ -50,4 +52,20 @@ pub fn enter(
             count + 1
         }
     }
+}
+
+// The written names, of which none stands twice.
+pub fn resolve_names(list: ParametersSpec, spec: &[u8], cells: &[u64], area: &[u8], from: usize, n: usize, sources: &mut [usize; 64], rest: &mut [usize; NAMED]) -> usize
+    requires { ⌜ Naming (now spec) list (now cells) (now area) from n (now sources) (now rest) ⌝ }
+    ensures { λ r. ⌜ Resolved (parametersIn (now (spec .entry)) (list .params)) (now (cells .entry)) (now (area .entry)) (pairsFrom (now (area .entry)) (now (cells .entry)) from n) (now (sources .exit)) (now (rest .exit)) r ⌝ }
+{
+    let mut count = 0;
+    let mut k = 0;
+    while k < n {
+        let pair = from + 4 * k;
+        let found = found_at(list, spec, cells, area, pair);
+        count = enter(found, pair, sources, rest, count);
+        k += 1;
+    }
+    count
 }
