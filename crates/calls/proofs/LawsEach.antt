@@ -1,0 +1,97 @@
+-- Runs of equal things in a record (01, cells, texts and records), which `rules` reads by consuming cells, at the indices of the
+-- cells: how many there are; the one at an index; a run mapped; a run's first and what is left. Then, for a loop that walks a run
+-- and stops at the first thing against it, a question of the run by its first thing; and a run of pairs that are well formed.
+-- Assumes nothing.
+use mathlib.Core.Path.{_≡_, refl, sym, ap, ap₂, _∙_}
+use mathlib.Core.Bool.{Bool, true, false, _&&_}
+use mathlib.Core.List.{List, [], _∷_, map}
+use Prim.Native.Nat.{ℕ, zero, suc, _+_, _-_, _*_, _<_, _≤_}
+use native.Mathlib.Nat.{mul-suc}
+use native.Mathlib.Omega.{arith}
+use lib.ListN.{length, drop, getD}
+use lib.Seq.{drop-drop}
+use Rattle.rules.specs.Listing.{all}
+use Rattle.rules.specs.Cells.{readEach}
+use Rattle.rules.specs.CallRecord.{Pair, pairWidth, readPair}
+use Rattle.rules.proofs.LawsListing.{and-left, and-right}
+use Rattle.calls.specs.Runs.{pairsAt, Formed}
+
+module _ {X : Type 0} (width : ℕ) (read : List ℕ → X) where
+  pub each-length : (count : ℕ) (cells : List ℕ) → length (readEach width read count cells) ≡ count
+  each-length zero cells = refl
+  each-length (suc count) cells = ap suc (each-length count (drop width cells))
+
+  -- the first of a run, and the run behind it
+  pub each-next : (cells : List ℕ) (at left : ℕ) → 0 < left
+      → readEach width read left (drop at cells) ≡ read (drop at cells) ∷ readEach width read (left - 1) (drop (at + width) cells)
+  each-next cells at zero h = absurd (omega arith)
+  each-next cells at (suc left) h =
+      let e : suc left - 1 ≡ left = omega arith in
+      rw (e, drop-drop width at cells)
+
+  -- nothing is left
+  pub each-none : (cells : List ℕ) (left : ℕ) → left ≤ 0 → readEach width read left cells ≡ []
+  each-none cells left h = let e : left ≡ 0 = omega arith in rw e
+
+  -- the one at index k
+  pub each-at : (cells : List ℕ) (at count k : ℕ) (x : X) → k < count → getD (readEach width read count (drop at cells)) k x ≡ read (drop (at + width * k) cells)
+  each-at cells at zero k x h = absurd (omega arith)
+  each-at cells at (suc count) zero x h = let e : at + width * 0 ≡ at = omega arith in rw e
+  each-at cells at (suc count) (suc k) x h =
+      let e : at + width + width * k ≡ at + (width + width * k) = omega arith in
+      let m : width * suc k ≡ width + width * k = mul-suc width k ∙ swap (width * k) in
+      rw (drop-drop width at cells, each-at cells (at + width) count k x (omega arith), e, m)
+    where
+      swap : (n : ℕ) → n + width ≡ width + n
+      swap n = omega arith
+
+pub each-map : {X Y : Type 0} (width : ℕ) (read : List ℕ → X) (f : X → Y) (count : ℕ) (cells : List ℕ)
+    → map f (readEach width read count cells) ≡ readEach width (λ l. f (read l)) count cells
+each-map width read f zero cells = refl
+each-map {Y = Y} width read f (suc count) cells = ap {B = List Y} (λ r. f (read cells) ∷ r) (each-map width read f count (drop width cells))
+
+-- ---- a question of a run
+
+-- `holds` is answered of a list by `first` of its first thing and the rest, and then by the rest
+module _ {X : Type 0} (width : ℕ) (read : List ℕ → X) (first : X → List X → Bool) (holds : List X → Bool)
+    (step : (x : X) (xs : List X) → holds (x ∷ xs) ≡ (first x xs && holds xs))
+    (cells : List ℕ) (at left : ℕ) (some : 0 < left) where
+  each-step : holds (readEach width read left (drop at cells))
+      ≡ (first (read (drop at cells)) (readEach width read (left - 1) (drop (at + width) cells)) && holds (readEach width read (left - 1) (drop (at + width) cells)))
+  each-step =
+      ap holds (each-next width read cells at left some)
+      ∙ step (read (drop at cells)) (readEach width read (left - 1) (drop (at + width) cells))
+
+  pub each-passes : first (read (drop at cells)) (readEach width read (left - 1) (drop (at + width) cells)) ≡ true
+      → holds (readEach width read left (drop at cells)) ≡ holds (readEach width read (left - 1) (drop (at + width) cells))
+  each-passes e = each-step ∙ ap (λ b. b && holds (readEach width read (left - 1) (drop (at + width) cells))) e
+
+  pub each-fails : first (read (drop at cells)) (readEach width read (left - 1) (drop (at + width) cells)) ≡ false
+      → holds (readEach width read left (drop at cells)) ≡ false
+  each-fails e = each-step ∙ ap (λ b. b && holds (readEach width read (left - 1) (drop (at + width) cells))) e
+
+-- a test of each thing by itself
+module _ {X : Type 0} (width : ℕ) (read : List ℕ → X) (test : X → Bool) (cells : List ℕ) (at left : ℕ) (some : 0 < left) where
+  pub all-passes : test (read (drop at cells)) ≡ true
+      → all test (readEach width read left (drop at cells)) ≡ all test (readEach width read (left - 1) (drop (at + width) cells))
+  all-passes e = each-passes width read (λ x xs. test x) (all test) (λ x xs. refl) cells at left some e
+
+  pub all-fails : test (read (drop at cells)) ≡ false → all test (readEach width read left (drop at cells)) ≡ false
+  all-fails e = each-fails width read (λ x xs. test x) (all test) (λ x xs. refl) cells at left some e
+
+-- ---- pairs that are well formed
+
+module _ (test : Pair → Bool) (cells : List ℕ) (at left : ℕ) (some : 0 < left) (h : Formed test cells at left) where
+  both : (test (readPair (drop at cells)) && all test (pairsAt cells (at + pairWidth) (left - 1))) ≡ true
+  both = sym (ap (all test) (each-next pairWidth readPair cells at left some)) ∙ h .formed
+
+  pub formed-first : test (readPair (drop at cells)) ≡ true
+  formed-first = and-left (test (readPair (drop at cells))) (all test (pairsAt cells (at + pairWidth) (left - 1))) both
+
+  pub formed-next : Formed test cells (at + pairWidth) (left - 1)
+  unfolding pairWidth
+  formed-next =
+      record {
+        within = omega (arith, h .within);
+        formed = and-right (test (readPair (drop at cells))) (all test (pairsAt cells (at + pairWidth) (left - 1))) both;
+      }

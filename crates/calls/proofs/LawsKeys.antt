@@ -1,0 +1,83 @@
+-- Keys and names that are well formed (01, questions 11 to 13), as the code reads them: that the bytes of such a text are those that
+-- `rules` compares, and that two keys that were read are equal when `rules` says so. Assumes nothing.
+use mathlib.Core.Path.{_≡_, refl, sym, ap, ap₂, _∙_}
+use mathlib.Core.Bool.{Bool, true, false, cond, not, _&&_, _||_}
+use mathlib.Core.List.{List, _∷_}
+use Prim.Native.Nat.{ℕ, _+_}
+use lib.Dec.{eqb, leb}
+use lib.ListN.{getD}
+use mir.Syntax.{w64}
+use mir.Val.{Fits, toZ, ofZ}
+use mir.ValLaws.{ofZ-toZ}
+use borrow.Author.Tests.{eqb-true, eqb-false}
+use Rattle.rules.specs.Text.{payloadOf, startOf, sizeOf, bytesAt, inside, isText, Text, textIn, sameBytes, among}
+use Rattle.rules.specs.Value.{Value, callText, wellFormedName, wellFormedKey}
+use Rattle.rules.specs.CallRecord.{Key, word, number, keyIn}
+use Rattle.rules.specs.CallQuestions.{sameKey}
+use Rattle.rules.proofs.LawsListing.{and-left, and-right}
+use Rattle.rules.proofs.LawsText.{payload-of-halves}
+use Rattle.cells.specs.Text.{textOf, partAt}
+use Rattle.cells.specs.Value.{readKey}
+use Rattle.cells.specs.Record.{pairAt}
+use Rattle.cells.proofs.LawsRecord.{pairAt-is}
+use Rattle.cells.specs.declared.value.ReadKey.{ReadKey}
+use Rattle.cells.specs.declared.value.ReadKey.the-variants.{Word, Number, Not}
+use Rattle.calls.specs.Keys.{sameRead}
+
+-- ---- the bytes of a text
+
+pub text-part : (least : ℕ) (area : List ℕ) (payload : ℕ) → isText least area payload ≡ true → partAt area payload ≡ bytesAt area payload
+unfolding isText partAt
+text-part least area payload e =
+    rw (and-left (inside area payload) (leb least (sizeOf payload)) (and-left (inside area payload && leb least (sizeOf payload)) (leb (sizeOf payload) 64) e))
+
+pub name-part : (area : List ℕ) (v : Value) → wellFormedName area v ≡ true → partAt area (v .payload) ≡ bytesAt area (v .payload)
+unfolding wellFormedName
+name-part area v e = text-part 1 area (v .payload) (and-right (eqb (v .kind) callText) (isText 1 area (v .payload)) e)
+
+-- a payload of 64-bit cells has 64 bits
+pub payload-fits : (cells : List ℕ) (at : ℕ) → Fits w64 (getD cells (at + 1) 0) → Fits w64 (pairAt cells at .payload)
+payload-fits cells at f = rw (pairAt-is cells at) f
+
+-- ---- a name among names
+
+pub among-first : (bytes : List ℕ) (t : Text) (ts : List Text) → not (among bytes (t ∷ ts)) ≡ (not (sameBytes bytes (t .bytes)) && not (among bytes ts))
+among-first bytes t ts = go (sameBytes bytes (t .bytes))
+  where
+    go : (b : Bool) → not (b || among bytes ts) ≡ (not b && not (among bytes ts))
+    go true = refl
+    go false = refl
+
+-- ---- a key that was read
+
+-- a well-formed key is a text, with its bytes inside the area, or a whole number
+data Seen (area : List ℕ) (v : Value) : Type 0 where
+  as-word : readKey area (v .kind) (v .payload) ≡ Word (textOf (v .payload)) → keyIn area v ≡ word (textIn area (v .payload))
+      → partAt area (v .payload) ≡ bytesAt area (v .payload) → Seen area v
+  as-number : readKey area (v .kind) (v .payload) ≡ Number (toZ w64 (v .payload)) → keyIn area v ≡ number (v .payload) → Seen area v
+
+key-text : (area : List ℕ) (v : Value) → eqb (v .kind) callText ≡ true → wellFormedKey area v ≡ true → isText 0 area (v .payload) ≡ true
+unfolding wellFormedKey callText
+key-text area v q e = rw (eqb-true (v .kind) 6 q) at e
+
+seen : (area : List ℕ) (v : Value) → wellFormedKey area v ≡ true → Seen area v
+unfolding readKey keyIn
+seen area v e = go (eqb (v .kind) callText) refl
+  where
+    go : (b : Bool) → eqb (v .kind) callText ≡ b → Seen area v
+    go true q = as-word (rw (e, q)) (rw q) (text-part 0 area (v .payload) (key-text area v q e))
+    go false q = as-number (rw (e, q)) (rw q)
+
+seen-same : (area : List ℕ) (v w : Value) → Fits w64 (v .payload) → Fits w64 (w .payload) → Seen area v → Seen area w
+    → sameRead area (readKey area (v .kind) (v .payload)) (readKey area (w .kind) (w .payload)) ≡ sameKey (keyIn area v) (keyIn area w)
+unfolding textOf textIn
+seen-same area v w f g (as-word r k b) (as-word s l d) =
+    rw (r, s, k, l, payload-of-halves (v .payload), payload-of-halves (w .payload), b, d)
+seen-same area v w f g (as-word r k b) (as-number s l) = rw (r, s, k, l)
+seen-same area v w f g (as-number r k) (as-word s l d) = rw (r, s, k, l)
+seen-same area v w f g (as-number r k) (as-number s l) =
+    rw (r, s, k, l, ofZ-toZ w64 (v .payload) f, ofZ-toZ w64 (w .payload) g)
+
+pub sameRead-keys : (area : List ℕ) (v w : Value) → Fits w64 (v .payload) → Fits w64 (w .payload) → wellFormedKey area v ≡ true → wellFormedKey area w ≡ true
+    → sameRead area (readKey area (v .kind) (v .payload)) (readKey area (w .kind) (w .payload)) ≡ sameKey (keyIn area v) (keyIn area w)
+sameRead-keys area v w f g d e = seen-same area v w f g (seen area v d) (seen area w e)

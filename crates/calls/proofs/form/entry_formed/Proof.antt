@@ -1,0 +1,50 @@
+-- `calls::form::entry_formed` meets its contract: it is well formed if reading gave something.
+-- Assumes nothing.
+use mathlib.Core.Path.{sym, _∙_}
+use native.Mathlib.Omega.{arith}
+use borrow.Author.Needs.{needs}
+use Rattle.rules.specs.Value.{valueWidth}
+use Rattle.rules.specs.CallRecord.{pairWidth}
+use Rattle.calls.proofs.LawsForm.{entry-formed}
+use Rattle.calls.proofs.form.entry_formed.Statement.{statement}
+use Rattle.calls.proofs.form.entry_formed.Tie as tie
+
+key-at-requires : tie.Need-key-at-requires
+key-at-requires c κs = search needs
+
+enum-told : tie.Need-enum-told
+enum-told c = search needs
+
+add-value-formed : tie.Need-add-value-formed
+unfolding pairWidth
+add-value-formed c = omega arith
+
+value-formed-requires : tie.Need-value-formed-requires
+value-formed-requires c κs = search needs
+
+enum-told-2 : tie.Need-enum-told-2
+enum-told-2 c = search needs
+
+add-value-formed-2 : tie.Need-add-value-formed-2
+unfolding pairWidth
+add-value-formed-2 c = omega arith
+
+value-formed-requires-2 : tie.Need-value-formed-requires-2
+value-formed-requires-2 c κs = search needs
+
+enum-told-3 : tie.Need-enum-told-3
+enum-told-3 c = search needs
+
+returns : tie.Need-returns
+unfolding valueWidth
+returns c = c .value-formed .ensures ∙ entry-formed _ _ _ _ (sym (c .before .enum-told .given .1) ∙ c .before .before .before .key-at .ensures)
+
+returns-2 : tie.Need-returns-2
+unfolding valueWidth
+returns-2 c = c .value-formed2 .ensures ∙ entry-formed _ _ _ _ (sym (c .before .enum-told2 .given .1) ∙ c .before .before .before .key-at .ensures)
+
+returns-3 : tie.Need-returns-3
+returns-3 c = entry-formed _ _ _ _ (sym (c .enum-told3 .given .1) ∙ c .before .before .key-at .ensures)
+
+pub entry-formed-spec : {M : Type 1} → statement M
+entry-formed-spec = tie.close (tie.spec key-at-requires enum-told add-value-formed value-formed-requires enum-told-2 add-value-formed-2 value-formed-requires-2 enum-told-3 returns returns-2 returns-3)

@@ -1,0 +1,126 @@
+// Questions 12 and 13 (01, the questions, call record): no key and no written name stands twice. `names_differ` is the Rust's
+// `ArgNames::new_check_unique`.
+// Reworked from starlark 0.14.2, src/eval/runtime/arguments.rs, Apache-2.0.
+use crate::head::PAIR;
+use cells::record::key_at;
+use cells::record::pair_at;
+use cells::text::part;
+use cells::text::same;
+use cells::value::ReadKey;
+ghost use mathlib.Core.Path.{_≡_};
+ghost use mathlib.Core.Bool.{true, not};
+ghost use lib.ListN.{drop};
+ghost use Rattle.rules.specs.Listing.{all};
+ghost use Rattle.rules.specs.Text.{sameBytes, among, differ, bytesAt};
+ghost use Rattle.rules.specs.Value.{wellFormedName, wellFormedKey};
+ghost use Rattle.rules.specs.CallRecord.{keyIn};
+ghost use Rattle.rules.specs.CallQuestions.{wellFormedPair, wellFormedEntry, sameKey, keysDiffer};
+ghost use Rattle.cells.specs.Text.{partAt};
+ghost use Rattle.cells.specs.Record.{pairAt};
+ghost use Rattle.calls.specs.Runs.{pairsAt, Formed, keysOf, namesOf};
+ghost use Rattle.calls.specs.Keys.{sameRead};
+
+// 12, of the `count` entries from `from` on. Each key is held against those behind it.
+pub fn keys_differ(cells: &[u64], area: &[u8], from: usize, count: usize) -> bool
+    requires { ⌜ Formed (wellFormedEntry (now area)) (now cells) from count ⌝ }
+    ensures { λ r. ⌜ r ≡ keysDiffer (keysOf (now (area .entry)) (pairsAt (now (cells .entry)) from count)) ⌝ }
+{
+    let mut at = from;
+    let mut left = count;
+    while 0 < left {
+        let next = at + PAIR;
+        left -= 1;
+        if !key_new(cells, area, at, next, left) {
+            return false;
+        }
+        at = next;
+    }
+    true
+}
+
+// Is the key at `key` none of those of the `count` entries from `from` on?
+fn key_new(cells: &[u64], area: &[u8], key: usize, from: usize, count: usize) -> bool
+    requires { ⌜ (wellFormedKey (now area) (pairAt (now cells) key) ≡ true) × Formed (wellFormedEntry (now area)) (now cells) from count ⌝ }
+    ensures { λ r. ⌜ r ≡ all (λ l. not (sameKey (keyIn (now (area .entry)) (pairAt (now (cells .entry)) key)) l)) (keysOf (now (area .entry)) (pairsAt (now (cells .entry)) from count)) ⌝ }
+{
+    let mut at = from;
+    let mut left = count;
+    while 0 < left {
+        if same_key(cells, area, key, at) {
+            return false;
+        }
+        at += PAIR;
+        left -= 1;
+    }
+    true
+}
+
+fn same_key(cells: &[u64], area: &[u8], a: usize, b: usize) -> bool
+    requires { ⌜ (wellFormedKey (now area) (pairAt (now cells) a) ≡ true) × (wellFormedKey (now area) (pairAt (now cells) b) ≡ true) ⌝ }
+    ensures { λ r. ⌜ r ≡ sameKey (keyIn (now (area .entry)) (pairAt (now (cells .entry)) a)) (keyIn (now (area .entry)) (pairAt (now (cells .entry)) b)) ⌝ }
+{
+    same_read(area, key_at(area, cells, a), key_at(area, cells, b))
+}
+
+// Texts are equal by their bytes, whole numbers by their value; a text is never equal to a whole number.
+fn same_read(area: &[u8], a: ReadKey, b: ReadKey) -> bool
+    ensures { λ r. ⌜ r ≡ sameRead (now (area .entry)) a b ⌝ }
+{
+    match a {
+        ReadKey::Word(t) => match b {
+            ReadKey::Word(u) => same(part(area, t.payload()), part(area, u.payload())),
+            ReadKey::Number(_) => false,
+            ReadKey::Not => false,
+        },
+        ReadKey::Number(m) => match b {
+            ReadKey::Word(_) => false,
+            ReadKey::Number(n) => m == n,
+            ReadKey::Not => false,
+        },
+        ReadKey::Not => false,
+    }
+}
+
+// 13, of the `count` written pairs from `from` on.
+pub fn names_differ(cells: &[u64], area: &[u8], from: usize, count: usize) -> bool
+    requires { ⌜ Formed (wellFormedPair (now area)) (now cells) from count ⌝ }
+    ensures { λ r. ⌜ r ≡ differ (namesOf (now (area .entry)) (pairsAt (now (cells .entry)) from count)) ⌝ }
+{
+    let mut at = from;
+    let mut left = count;
+    while 0 < left {
+        let next = at + PAIR;
+        left -= 1;
+        if !name_new(cells, area, at, next, left) {
+            return false;
+        }
+        at = next;
+    }
+    true
+}
+
+// Is the name at `name` none of those of the `count` written pairs from `from` on?
+fn name_new(cells: &[u64], area: &[u8], name: usize, from: usize, count: usize) -> bool
+    requires { ⌜ (wellFormedName (now area) (pairAt (now cells) name) ≡ true) × Formed (wellFormedPair (now area)) (now cells) from count ⌝ }
+    ensures { λ r. ⌜ r ≡ not (among (bytesAt (now (area .entry)) (pairAt (now (cells .entry)) name .payload)) (namesOf (now (area .entry)) (pairsAt (now (cells .entry)) from count))) ⌝ }
+{
+    let mut at = from;
+    let mut left = count;
+    while 0 < left {
+        if same_name(cells, area, name, at) {
+            return false;
+        }
+        at += PAIR;
+        left -= 1;
+    }
+    true
+}
+
+fn same_name(cells: &[u64], area: &[u8], a: usize, b: usize) -> bool
+    requires { ⌜ (wellFormedName (now area) (pairAt (now cells) a) ≡ true) × (wellFormedName (now area) (pairAt (now cells) b) ≡ true) ⌝ }
+    ensures { λ r. ⌜ r ≡ sameBytes (bytesAt (now (area .entry)) (pairAt (now (cells .entry)) a .payload)) (bytesAt (now (area .entry)) (pairAt (now (cells .entry)) b .payload)) ⌝ }
+{
+    let x = pair_at(cells, a);
+    let y = pair_at(cells, b);
+    same(part(area, x.payload), part(area, y.payload))
+}
