@@ -4,3 +4,4 @@ pub mod LawsResolved
 pub mod LawsAsked
 pub mod LawsBoard
 pub mod LawsNames
+pub mod LawsEntries

@@ -1,14 +1,17 @@
 -- What the names of a call fill, as the code keeps it: for each parameter the cell of the value that a name gives it, and the cells of the
 -- pairs that name no parameter. Against `rules`: each parameter's partner in N, and the named remainder.
 use mathlib.Core.Path.{_≡_}
+use mathlib.Core.Bool.{true}
 use mathlib.Core.List.{List, map}
 use mathlib.Core.Option.{Option, none, some}
 use Prim.Native.Nat.{ℕ, zero, suc, _≤_, _<_}
 use lib.ListN.{length, take, drop, getD}
+use Rattle.rules.specs.Text.{inside}
 use Rattle.rules.specs.Value.{Value, readValue}
 use Rattle.rules.specs.CallRecord.{Named, readPair, namedIn}
 use Rattle.rules.specs.Parameters.{Parameter}
 use Rattle.rules.specs.Placement.{partner, namedRemainder}
+use Rattle.cells.specs.Record.{pairAt}
 
 -- the value at a source: none at 0, since cell 0 of a call record is a count
 abbrev pub sourceValue : List ℕ → ℕ → Option Value
@@ -23,5 +26,6 @@ pub record Resolved (qs : List Parameter) (cells area : List ℕ) (N : List Name
   pub sources-are : (k : ℕ) (d : Parameter) → k < length qs → partner (getD qs k d) N ≡ sourceValue cells (getD sources k 0)
   pub rest-is : namedRemainder qs N ≡ map (namedAt area cells) (take count rest)
   pub in-rest : count ≤ length N
+  pub rest-inside : (j : ℕ) → j < count → inside area (pairAt cells (getD rest j 0) .payload) ≡ true
   pub slots : length sources ≡ 64
   pub pairs : length rest ≡ 128

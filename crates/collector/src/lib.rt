@@ -3,5 +3,6 @@
 
 pub mod answer;
 pub mod detail;
+pub mod entries;
 pub mod found;
 pub mod resolve;
