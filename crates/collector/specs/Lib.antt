@@ -3,3 +3,4 @@ pub mod Answer
 pub mod Found
 pub mod Resolved
 pub mod Resolve
+pub mod Entries

@@ -10,20 +10,65 @@ use crate::resolve::NAMED;
 use lookup::Finding;
 use lookup::get_str;
 ghost use mathlib.Core.Path.{_≡_};
-ghost use Prim.Native.Nat.{ℕ, _<_, _≤_};
-ghost use lib.ListN.{length, getD};
-ghost use mathlib.Core.Bool.{true};
-ghost use mathlib.Core.List.{map};
-ghost use lib.ListN.{take};
-ghost use Rattle.rules.specs.Text.{inside, among};
+ghost use Rattle.rules.specs.Text.{among};
 ghost use Rattle.rules.specs.Binding.{textsOf};
-ghost use Rattle.cells.specs.Record.{pairAt};
-ghost use Rattle.collector.specs.Resolved.{namedAt};
+ghost use Rattle.collector.specs.Resolve.{Below};
+ghost use Rattle.collector.specs.Entries.{Held, heldNames, takenBy, wordAt, enteredAt};
+
+// What 18 and 19 answer for one entry: the parameter that it may fill, or the refusal.
+pub enum Entered {
+    Free(Finding),
+    // 18
+    NotText,
+    // 19: the key
+    Repeated(u64),
+}
+
+// 18 and 19 of the entry at a cell.
+pub fn entry_at(list: ParametersSpec, spec: &[u8], cells: &[u64], area: &[u8], pair: usize, next: usize, sources: &[usize; 64], rest: &[usize; NAMED], count: usize) -> Entered
+    requires { ⌜ Held (now area) (now cells) (now rest) count ⌝ }
+    ensures { λ r. ⌜ r ≡ enteredAt (now (spec .entry)) list (now (area .entry)) (now (cells .entry)) pair next (now (sources .entry)) (now (rest .entry)) count ⌝ }
+{
+    match key_at(area, cells, pair) {
+        ReadKey::Word(t) => word_at(list, spec, cells, area, t.payload(), next, sources, rest, count),
+        ReadKey::Number(_) => Entered::NotText,
+        ReadKey::Not => Entered::NotText,
+    }
+}
+
+// 19 of an entry whose key is the text of this payload.
+fn word_at(list: ParametersSpec, spec: &[u8], cells: &[u64], area: &[u8], payload: u64, next: usize, sources: &[usize; 64], rest: &[usize; NAMED], count: usize) -> Entered
+    requires { ⌜ Held (now area) (now cells) (now rest) count ⌝ }
+    ensures { λ r. ⌜ r ≡ wordAt (now (spec .entry)) list (now (area .entry)) (now (cells .entry)) next (now (sources .entry)) (now (rest .entry)) count payload ⌝ }
+{
+    let name = part(area, payload);
+    let found = get_str(list, spec, name);
+    if is_taken(found, cells, area, next, sources, rest, count, name) {
+        return Entered::Repeated(payload);
+    }
+    Entered::Free(found)
+}
+
+// Is what was found taken: a slot that a value of P or an earlier name fills, or a name that the remainder has already?
+fn is_taken(found: Finding, cells: &[u64], area: &[u8], next: usize, sources: &[usize; 64], rest: &[usize; NAMED], count: usize, name: &[u8]) -> bool
+    requires { ⌜ Held (now area) (now cells) (now rest) count × Below 64 found ⌝ }
+    ensures { λ r. ⌜ r ≡ takenBy found next (now (sources .entry)) (heldNames (now (area .entry)) (now (cells .entry)) (now (rest .entry)) count) (now (name .entry)) ⌝ }
+{
+    match found {
+        Finding::At(i) => {
+            if i < next {
+                return true;
+            }
+            sources[i] != 0
+        }
+        Finding::Unknown => in_rest(cells, area, rest, count, name),
+    }
+}
 
 // Does one of the `count` pairs of the remainder have this name?
 pub fn in_rest(cells: &[u64], area: &[u8], rest: &[usize; NAMED], count: usize, name: &[u8]) -> bool
-    requires { ⌜ (count ≤ 128) × (length (now rest) ≡ 128) × ((j : ℕ) → j < count → inside (now area) (pairAt (now cells) (getD (now rest) j 0) .payload) ≡ true) ⌝ }
-    ensures { λ r. ⌜ r ≡ among (now (name .entry)) (textsOf (map (namedAt (now (area .entry)) (now (cells .entry))) (take count (now (rest .entry))))) ⌝ }
+    requires { ⌜ Held (now area) (now cells) (now rest) count ⌝ }
+    ensures { λ r. ⌜ r ≡ among (now (name .entry)) (textsOf (heldNames (now (area .entry)) (now (cells .entry)) (now (rest .entry)) count)) ⌝ }
 {
     let mut k = 0;
     while k < count {
