@@ -57,11 +57,11 @@ module _ (qs : List Parameter) (cells area : List ℕ) where
       record { sources-are = λ k d h. sym (ap (sourceValue cells) (zeros k h)); rest-is = refl; in-rest = omega arith; rest-inside = λ j h. absurd (omega arith); slots = slots; pairs = pairs }
 
   -- the parameter at an index is named by a pair exactly where the pair's name is found there
-  named-at : namesApart [] qs ≡ true → (b : List ℕ) (f : Finding) → find qs b ≡ f → (k : ℕ) (d : Parameter) → k < length qs → names b (getD qs k d) ≡ isAt k f
+  pub named-at : namesApart [] qs ≡ true → (b : List ℕ) (f : Finding) → find qs b ≡ f → (k : ℕ) (d : Parameter) → k < length qs → names b (getD qs k d) ≡ isAt k f
   unfolding find
   named-at apart b f e k d h = names-at [] 0 qs b apart k d h ∙ ap₂ isAt (zero-add k) e
 
-  known-at : (b : List ℕ) (f : Finding) → find qs b ≡ f → known qs b ≡ isFound f
+  pub known-at : (b : List ℕ) (f : Finding) → find qs b ≡ f → known qs b ≡ isFound f
   unfolding find
   known-at b f e = sym (known-found qs b 0) ∙ ap isFound e
 

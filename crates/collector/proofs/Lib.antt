@@ -5,3 +5,4 @@ pub mod LawsAsked
 pub mod LawsBoard
 pub mod LawsNames
 pub mod LawsEntries
+pub mod LawsEntry

@@ -6,6 +6,7 @@ use Prim.Native.Nat.{ℕ, _≤_, _<_}
 use lib.Dec.{ltb, eqb}
 use lib.ListN.{length, take, getD}
 use Rattle.rules.specs.Text.{among, payloadOf, inside}
+use Rattle.rules.specs.Answer.{Answer, fine, refuse, none, name, callArea}
 use Rattle.rules.specs.CallRecord.{Named}
 use Rattle.rules.specs.Binding.{textsOf}
 use Rattle.cells.specs.Text.{partAt}
@@ -16,6 +17,7 @@ use Rattle.builder.specs.declared.spec.ParametersSpec.{ParametersSpec}
 use Rattle.lookup.specs.declared.Finding.{Finding}
 use Rattle.lookup.specs.declared.Finding.the-variants.{At, Unknown}
 use Rattle.lookup.specs.Lookup.{findIn}
+use Rattle.collector.specs.Answer.{placeOf}
 use Rattle.collector.specs.Resolved.{namedAt}
 use Rattle.collector.specs.declared.entries.Entered.{Entered}
 use Rattle.collector.specs.declared.entries.Entered.the-variants.{Free, NotText, Repeated}
@@ -31,8 +33,8 @@ heldNames area cells rest count = map (namedAt area cells) (take count rest)
 
 -- is a slot that is found filled already, or a name that is not found in the remainder already?
 abbrev pub takenBy : Finding → ℕ → List ℕ → List Named → List ℕ → Bool
-takenBy (At i) next sources rest name = ltb i next || not (eqb (getD sources i 0) 0)
-takenBy Unknown next sources rest name = among name (textsOf rest)
+takenBy (At i) next sources rest bytes = ltb i next || not (eqb (getD sources i 0) 0)
+takenBy Unknown next sources rest bytes = among bytes (textsOf rest)
 
 abbrev pub freeOr : Bool → ℕ → Finding → Entered
 freeOr b payload f = cond b (Repeated payload) (Free f)
@@ -51,3 +53,9 @@ wordAt spec l area cells next sources rest count payload =
 
 unfoldable pub enteredAt : List ℕ → ParametersSpec → List ℕ → List ℕ → ℕ → ℕ → List ℕ → List ℕ → ℕ → Entered
 enteredAt spec l area cells pair next sources rest count = enteredBy (keyAt area cells pair) (wordAt spec l area cells next sources rest count)
+
+-- 01's number and detail for the answer of an entry
+abbrev pub entryAnswer : Entered → Answer
+entryAnswer (Free f) = fine
+entryAnswer NotText = refuse 18 none
+entryAnswer (Repeated payload) = refuse 19 (name (placeOf callArea payload))
