@@ -1,25 +1,26 @@
--- Questions 9 to 13 (01, the questions, call record) by the head of the record and the indices at which its parts begin, as the code
--- asks them: the bounds that 9 gives; each of 9 to 13 as a question of the head or of runs of cells; and what a record that passes
--- 9 to 11 leaves to 12 and 13. `h` is the head that was read. Assumes nothing.
-use mathlib.Core.Path.{_≡_, refl, sym, ap, ap₂, _∙_}
-use mathlib.Core.Bool.{Bool, true, false, _&&_}
+-- Questions 9 to 13 (01, the questions, call record), as the code asks them, by the head of the record and the indices at which its
+-- parts begin. In this order: counts that are few, as bounds; kinds past 2; what is well formed, part by part; each question as one
+-- of the head or of runs of cells; the bounds that 9 gives; what 11 leaves to 12 and 13; and the answers of `askForm` and `askCall`
+-- taken apart where they are fine. `h` is the head that was read. Assumes nothing.
+use mathlib.Core.Path.{_≡_, refl, sym, ap, _∙_}
+use mathlib.Core.Bool.{true, false, _&&_}
 use mathlib.Core.List.{List}
 use Prim.Native.Nat.{ℕ, zero, suc, _+_, _*_, _≤_}
 use native.Mathlib.Omega.{arith}
 use lib.Dec.{leb, eqb}
-use lib.ListN.{length, drop}
+use lib.ListN.{length}
 use lib.Seq.{drop-drop}
 use borrow.Author.Tests.{leb-true, eqb-true}
 use Rattle.rules.specs.Listing.{all}
 use Rattle.rules.specs.Text.{differ}
-use Rattle.rules.specs.Value.{valueWidth, readValue, wellFormedArgument}
-use Rattle.rules.specs.Answer.{Answer, fine, _then_, ask}
-use Rattle.rules.specs.CallRecord.{Head, CallRecord, headWidth, pairWidth, readHead, callLength, readPair, readCall}
-use Rattle.rules.specs.CallQuestions.{lengthsRight, kindRight, kindsRight, wellFormedPair, wellFormedEntry, partsWellFormed, keysDiffer, entriesDiffer, namesDiffer, askForm}
+use Rattle.rules.specs.Value.{valueWidth, wellFormedArgument}
+use Rattle.rules.specs.Answer.{fine, _then_, ask}
+use Rattle.rules.specs.CallRecord.{Head, CallRecord, headWidth, pairWidth, readHead, callLength, readCall}
+use Rattle.rules.specs.CallQuestions.{lengthsRight, kindRight, kindsRight, wellFormedPair, wellFormedEntry, partsWellFormed, keysDiffer, entriesDiffer, namesDiffer, askForm, askCall}
 use Rattle.rules.proofs.LawsListing.{and-left, and-right}
 use Rattle.rules.proofs.LawsAnswer.{then-left, then-right, ask-true}
 use Rattle.calls.specs.Head.{atMost, Few, namedFrom, itemsFrom, entriesFrom}
-use Rattle.calls.specs.Runs.{valuesAt, pairsAt, Formed, keysOf, namesOf}
+use Rattle.calls.specs.Runs.{valuesAt, pairsAt, Formed, keysAt, namesAt}
 use Rattle.calls.proofs.LawsEach.{each-length}
 
 -- ---- the counts
@@ -36,7 +37,9 @@ few-bounds B h e =
       few-d = leb-true (h .d) B (and-right (leb (h .p) B && leb (h .n) B && leb (h .s) B) (leb (h .d) B) e);
     }
 
--- kinds past 2 are none
+-- ---- one star, and the parts
+
+-- there are no kinds past 2
 pub kind-past : (kind count : ℕ) → (kind ≡ 0 → ⊥) → (kind ≡ 1 → ⊥) → (kind ≡ 2 → ⊥) → kindRight kind count ≡ false
 kind-past zero count l m n = absurd (l refl)
 kind-past (suc zero) count l m n = absurd (m refl)
@@ -104,11 +107,11 @@ module _ (cells : List ℕ) (h : Head) (read : h ≡ readHead cells) where
   unfolding partsWellFormed
   parts-by area = rw (call-positionals, call-named, call-items, call-entries)
 
-  pub entries-by : (area : List ℕ) → entriesDiffer area (readCall cells) ≡ keysDiffer (keysOf area (pairsAt cells (entriesFrom h) (h .d)))
+  pub entries-by : (area : List ℕ) → entriesDiffer area (readCall cells) ≡ keysDiffer (keysAt area cells (entriesFrom h) (h .d))
   unfolding entriesDiffer
   entries-by area = rw call-entries
 
-  pub names-by : (area : List ℕ) → namesDiffer area (readCall cells) ≡ differ (namesOf area (pairsAt cells (namedFrom h) (h .n)))
+  pub names-by : (area : List ℕ) → namesDiffer area (readCall cells) ≡ differ (namesAt area cells (namedFrom h) (h .n))
   unfolding namesDiffer
   names-by area = rw call-named
 
@@ -173,3 +176,26 @@ module _ (B : ℕ) (cells area : List ℕ) (e : askForm B cells area ≡ fine) w
   form-parts =
       ask-true 11 (partsWellFormed area (readCall cells))
       (then-right (ask 10 (kindsRight (readCall cells))) (ask 11 (partsWellFormed area (readCall cells))) after-lengths)
+
+-- ---- 9 to 13 as one answer
+
+module _ (B : ℕ) (cells area : List ℕ) (e : askCall B cells area ≡ fine) where
+  pub call-form : askForm B cells area ≡ fine
+  unfolding askCall
+  call-form =
+      then-left (askForm B cells area) (ask 12 (entriesDiffer area (readCall cells)) then ask 13 (namesDiffer area (readCall cells))) e
+
+  after-form : (ask 12 (entriesDiffer area (readCall cells)) then ask 13 (namesDiffer area (readCall cells))) ≡ fine
+  unfolding askCall
+  after-form =
+      then-right (askForm B cells area) (ask 12 (entriesDiffer area (readCall cells)) then ask 13 (namesDiffer area (readCall cells))) e
+
+  pub call-keys : entriesDiffer area (readCall cells) ≡ true
+  call-keys =
+      ask-true 12 (entriesDiffer area (readCall cells))
+      (then-left (ask 12 (entriesDiffer area (readCall cells))) (ask 13 (namesDiffer area (readCall cells))) after-form)
+
+  pub call-names : namesDiffer area (readCall cells) ≡ true
+  call-names =
+      ask-true 13 (namesDiffer area (readCall cells))
+      (then-right (ask 12 (entriesDiffer area (readCall cells))) (ask 13 (namesDiffer area (readCall cells))) after-form)

@@ -1,19 +1,22 @@
 -- Runs of equal things in a record (01, cells, texts and records), which `rules` reads by consuming cells, at the indices of the
--- cells: how many there are; the one at an index; a run mapped; a run's first and what is left. Then, for a loop that walks a run
--- and stops at the first thing against it, a question of the run by its first thing; and a run of pairs that are well formed.
--- Assumes nothing.
-use mathlib.Core.Path.{_≡_, refl, sym, ap, ap₂, _∙_}
-use mathlib.Core.Bool.{Bool, true, false, _&&_}
-use mathlib.Core.List.{List, [], _∷_, map}
+-- cells. In this order: how many a run has, its first and the rest, the one at an index, a run mapped; a question of a run by its
+-- first thing, for a loop that walks the run and stops at the first thing against it; a test of all at one index; a run of pairs that
+-- are well formed; and two runs, one after the other, at the places that `inRuns` gives. Assumes nothing.
+use mathlib.Core.Path.{_≡_, refl, sym, ap, _∙_, subst}
+use mathlib.Core.Bool.{Bool, true, false, cond, _&&_}
+use mathlib.Core.List.{List, [], _∷_, _++_, map}
 use Prim.Native.Nat.{ℕ, zero, suc, _+_, _-_, _*_, _<_, _≤_}
-use native.Mathlib.Nat.{mul-suc}
+use native.Mathlib.Nat.{mul-suc, mul-le-mul-left}
 use native.Mathlib.Omega.{arith}
-use lib.ListN.{length, drop, getD}
-use lib.Seq.{drop-drop}
+use lib.Dec.{ltb}
+use lib.ListN.{length, drop, getD, List·getD-append}
+use lib.Seq.{drop-drop, getD-append-add}
+use borrow.Author.Tests.{lt-ltb, le-ltb, ltb-true, ltb-false}
 use Rattle.rules.specs.Listing.{all}
 use Rattle.rules.specs.Cells.{readEach}
 use Rattle.rules.specs.CallRecord.{Pair, pairWidth, readPair}
 use Rattle.rules.proofs.LawsListing.{and-left, and-right}
+use Rattle.calls.specs.Places.{inRuns}
 use Rattle.calls.specs.Runs.{pairsAt, Formed}
 
 module _ {X : Type 0} (width : ℕ) (read : List ℕ → X) where
@@ -79,6 +82,13 @@ module _ {X : Type 0} (width : ℕ) (read : List ℕ → X) (test : X → Bool) 
   pub all-fails : test (read (drop at cells)) ≡ false → all test (readEach width read left (drop at cells)) ≡ false
   all-fails e = each-fails width read (λ x xs. test x) (all test) (λ x xs. refl) cells at left some e
 
+-- ---- a test of all is a test of each
+
+pub all-at : {X : Type 0} (test : X → Bool) (xs : List X) (k : ℕ) (x : X) → k < length xs → all test xs ≡ true → test (getD xs k x) ≡ true
+all-at test [] k x h e = absurd (omega arith)
+all-at test (y ∷ ys) zero x h e = and-left (test y) (all test ys) e
+all-at test (y ∷ ys) (suc k) x h e = all-at test ys k x (omega arith) (and-right (test y) (all test ys) e)
+
 -- ---- pairs that are well formed
 
 module _ (test : Pair → Bool) (cells : List ℕ) (at left : ℕ) (some : 0 < left) (h : Formed test cells at left) where
@@ -95,3 +105,58 @@ module _ (test : Pair → Bool) (cells : List ℕ) (at left : ℕ) (some : 0 < l
         within = omega (arith, h .within);
         formed = and-right (test (readPair (drop at cells))) (all test (pairsAt cells (at + pairWidth) (left - 1))) both;
       }
+
+-- ---- two runs, one after the other
+
+module _ {X : Type 0} (width : ℕ) (read : List ℕ → X) (cells : List ℕ) (first a second b : ℕ) where
+  pub runs-first : (k : ℕ) (x : X) → k < a
+      → getD (readEach width read a (drop first cells)) k x ≡ read (drop (inRuns width first a second b k) cells)
+  unfolding inRuns
+  runs-first k x h = each-at width read cells first a k x h ∙ rw (lt-ltb k a h)
+
+  pub runs-second : (k : ℕ) (x : X) → k < b
+      → getD (readEach width read b (drop second cells)) k x ≡ read (drop (inRuns width first a second b (a + k)) cells)
+  unfolding inRuns
+  runs-second k x h =
+      let e : a + k - a ≡ k = omega arith in
+      each-at width read cells second b k x h ∙ rw (le-ltb (a + k) a (omega arith), lt-ltb (a + k) (a + b) (omega arith), e)
+
+  pub runs-both : (k : ℕ) (x : X) → k < a + b
+      → getD (readEach width read a (drop first cells) ++ readEach width read b (drop second cells)) k x ≡ read (drop (inRuns width first a second b k) cells)
+  runs-both k x h = go (ltb k a) refl
+    where
+      xs : List X
+      xs = readEach width read a (drop first cells)
+
+      ys : List X
+      ys = readEach width read b (drop second cells)
+
+      later : (j : ℕ) → j < b → getD (xs ++ ys) (a + j) x ≡ read (drop (inRuns width first a second b (a + j)) cells)
+      later j l =
+          ap (λ (n : ℕ). getD (xs ++ ys) (n + j) x) (sym (each-length width read a (drop first cells)))
+          ∙ getD-append-add xs ys j x
+          ∙ runs-second j x l
+
+      go : (t : Bool) → ltb k a ≡ t → getD (xs ++ ys) k x ≡ read (drop (inRuns width first a second b k) cells)
+      go true e =
+          let l : k < a = ltb-true k a e in
+          List·getD-append xs ys x k (rw (each-length width read a (drop first cells)) l) ∙ runs-first k x l
+      go false e =
+          let l : a ≤ k = ltb-false k a e in
+          let j : a + (k - a) ≡ k = omega arith in
+          subst (λ (n : ℕ). getD (xs ++ ys) n x ≡ read (drop (inRuns width first a second b n) cells)) j (later (k - a) (omega arith))
+
+  -- every thing of both runs lies inside n cells where the runs do
+  pub runs-within : (n k : ℕ) → first + width * a ≤ n → second + width * b ≤ n → k < a + b → inRuns width first a second b k + width ≤ n
+  unfolding inRuns
+  runs-within n k f s h = go (ltb k a) refl
+    where
+      last : (j m : ℕ) → j < m → width * j + width ≤ width * m
+      last j m l = rw (sym (mul-suc width j)) (mul-le-mul-left width l)
+
+      go : (t : Bool) → ltb k a ≡ t → cond t (first + width * k) (cond (ltb k (a + b)) (second + width * (k - a)) 0) + width ≤ n
+      go true e = omega (arith, last k a (ltb-true k a e))
+      go false e =
+          let l : a ≤ k = ltb-false k a e in
+          let j : k - a < b = omega arith in
+          rw (lt-ltb k (a + b) h) (omega (arith, last (k - a) b j))

@@ -1,6 +1,6 @@
 -- Question 11 of one value, one written pair and one entry (01, the questions, call record), by what reading its cells answered: it is
 -- well formed if reading gave something; and the name of a pair and the key of an entry that are well formed. Assumes nothing.
-use mathlib.Core.Path.{_≡_, refl, sym, ap, ap₂, _∙_}
+use mathlib.Core.Path.{_≡_, refl, ap, _∙_}
 use mathlib.Core.Bool.{Bool, true, false, cond, _&&_}
 use mathlib.Core.List.{List}
 use Prim.Native.Nat.{ℕ, _+_}

@@ -1,18 +1,19 @@
 -- Keys and names that are well formed (01, questions 11 to 13), as the code reads them: that the bytes of such a text are those that
--- `rules` compares, and that two keys that were read are equal when `rules` says so. Assumes nothing.
-use mathlib.Core.Path.{_≡_, refl, sym, ap, ap₂, _∙_}
-use mathlib.Core.Bool.{Bool, true, false, cond, not, _&&_, _||_}
+-- `rules` compares; a name held against the first of some names; what reading a key answers, beside the key that `rules` has there;
+-- and that two keys that were read are equal when `rules` says so. Assumes nothing.
+use mathlib.Core.Path.{_≡_, refl}
+use mathlib.Core.Bool.{Bool, true, false, not, _&&_, _||_}
 use mathlib.Core.List.{List, _∷_}
 use Prim.Native.Nat.{ℕ, _+_}
 use lib.Dec.{eqb, leb}
 use lib.ListN.{getD}
 use mir.Syntax.{w64}
-use mir.Val.{Fits, toZ, ofZ}
+use mir.Val.{Fits, toZ}
 use mir.ValLaws.{ofZ-toZ}
-use borrow.Author.Tests.{eqb-true, eqb-false}
-use Rattle.rules.specs.Text.{payloadOf, startOf, sizeOf, bytesAt, inside, isText, Text, textIn, sameBytes, among}
+use borrow.Author.Tests.{eqb-true}
+use Rattle.rules.specs.Text.{sizeOf, bytesAt, inside, isText, Text, textIn, sameBytes, among}
 use Rattle.rules.specs.Value.{Value, callText, wellFormedName, wellFormedKey}
-use Rattle.rules.specs.CallRecord.{Key, word, number, keyIn}
+use Rattle.rules.specs.CallRecord.{word, number, keyIn}
 use Rattle.rules.specs.CallQuestions.{sameKey}
 use Rattle.rules.proofs.LawsListing.{and-left, and-right}
 use Rattle.rules.proofs.LawsText.{payload-of-halves}
@@ -20,8 +21,7 @@ use Rattle.cells.specs.Text.{textOf, partAt}
 use Rattle.cells.specs.Value.{readKey}
 use Rattle.cells.specs.Record.{pairAt}
 use Rattle.cells.proofs.LawsRecord.{pairAt-is}
-use Rattle.cells.specs.declared.value.ReadKey.{ReadKey}
-use Rattle.cells.specs.declared.value.ReadKey.the-variants.{Word, Number, Not}
+use Rattle.cells.specs.declared.value.ReadKey.the-variants.{Word, Number}
 use Rattle.calls.specs.Keys.{sameRead}
 
 -- ---- the bytes of a text
@@ -51,7 +51,7 @@ among-first bytes t ts = go (sameBytes bytes (t .bytes))
 -- ---- a key that was read
 
 -- a well-formed key is a text, with its bytes inside the area, or a whole number
-data Seen (area : List ℕ) (v : Value) : Type 0 where
+pub data Seen (area : List ℕ) (v : Value) : Type 0 where
   as-word : readKey area (v .kind) (v .payload) ≡ Word (textOf (v .payload)) → keyIn area v ≡ word (textIn area (v .payload))
       → partAt area (v .payload) ≡ bytesAt area (v .payload) → Seen area v
   as-number : readKey area (v .kind) (v .payload) ≡ Number (toZ w64 (v .payload)) → keyIn area v ≡ number (v .payload) → Seen area v
@@ -60,7 +60,7 @@ key-text : (area : List ℕ) (v : Value) → eqb (v .kind) callText ≡ true →
 unfolding wellFormedKey callText
 key-text area v q e = rw (eqb-true (v .kind) 6 q) at e
 
-seen : (area : List ℕ) (v : Value) → wellFormedKey area v ≡ true → Seen area v
+pub seen : (area : List ℕ) (v : Value) → wellFormedKey area v ≡ true → Seen area v
 unfolding readKey keyIn
 seen area v e = go (eqb (v .kind) callText) refl
   where

@@ -1,92 +1,27 @@
--- Where the values of P and the pairs of N stand (01, placement), in a record that passes 9 and 10: how many there are, and that each
--- is what the record holds at its place. P first, then the written pairs, then the entries, each at the place that `positionAt` or
--- `namedAt` gives; then 15 and 17 by the kinds of the two stars. `c` is the call that the record stands for. The pairs of N are the
--- written pairs and then the entries whose key is a text, so they stand at the places of both where every key is one.
--- Assumes nothing.
-use mathlib.Core.Path.{_≡_, refl, sym, ap, ap₂, _∙_, subst}
-use mathlib.Core.Bool.{Bool, true, false, cond, not, _&&_, false≢true}
+-- Where the values of P and the pairs of N stand (01, placement). Of a record that passes 10: P, the written pairs and the entries as
+-- runs of its cells, how many there are of each, and 15 and 17 by the kinds of the two stars. Of one that passes 9 too: that each of
+-- them is what stands at the place that `positionAt` or `namedAt` gives, and that the place lies inside the record. Where 11 passes,
+-- what stands there is well formed. Where every key is a text, N is the written pairs and then all the entries.
+-- The call is `callIn area (readCall cells)`, and `h` the head that was read. Assumes nothing.
+use mathlib.Core.Path.{_≡_, refl, sym, ap, ap₂, _∙_}
+use mathlib.Core.Bool.{Bool, true, false, not, false≢true}
 use mathlib.Core.List.{List, [], _∷_, _++_, map}
-use Prim.Native.Nat.{ℕ, zero, suc, _+_, _-_, _*_, _≤_, _<_}
-use native.Mathlib.Nat.{mul-suc, mul-le-mul-left}
+use Prim.Native.Nat.{ℕ, zero, suc, _+_, _≤_, _<_}
 use native.Mathlib.Omega.{arith}
-use lib.Dec.{eqb, ltb}
-use lib.ListN.{length, drop, getD, length-append, length-map, List·getD-append}
-use lib.Seq.{getD-append-add}
-use borrow.Author.Tests.{eqb-true, lt-ltb, le-ltb, ltb-true, ltb-false}
-use Rattle.rules.specs.Cells.{readEach}
+use lib.Dec.{eqb}
+use lib.ListN.{length, drop, getD, length-append, length-map}
+use borrow.Author.Tests.{eqb-true}
 use Rattle.rules.specs.Listing.{all}
 use Rattle.rules.specs.Value.{Value, valueWidth, readValue, callText, noValue, wellFormedArgument}
-use Rattle.rules.specs.CallRecord.{Head, headWidth, pairWidth, Pair, readPair, readHead, readCall, Named, Entry, Call, keyIn, namedIn, entryIn, words, namedOf, callIn, starOf, doubleOf, itemsOf, entriesOf, positionalsOf}
+use Rattle.rules.specs.CallRecord.{Head, headWidth, pairWidth, Pair, readPair, readHead, readCall, Named, Entry, keyIn, namedIn, entryIn, words, namedOf, callIn, starOf, doubleOf, itemsOf, entriesOf, positionalsOf}
 use Rattle.rules.specs.CallQuestions.{lengthsRight, kindRight, kindsRight, wellFormedPair, wellFormedEntry, partsWellFormed}
 use Rattle.rules.specs.Binding.{starPasses, doublePasses}
 use Rattle.rules.proofs.LawsListing.{and-left, and-right, all-append}
-use Rattle.calls.specs.Head.{atMost, namedFrom, itemsFrom, entriesFrom}
+use Rattle.calls.specs.Head.{namedFrom, itemsFrom, entriesFrom}
 use Rattle.calls.specs.Places.{inRuns, positionAt, namedAt}
 use Rattle.calls.specs.Runs.{valuesAt, pairsAt}
-use Rattle.calls.proofs.LawsEach.{each-length, each-at, each-map}
+use Rattle.calls.proofs.LawsEach.{each-length, each-map, all-at, runs-first, runs-second, runs-both, runs-within}
 use Rattle.calls.proofs.LawsCall.{call-positionals, call-named, call-items, call-entries, lengths-atMost, positionals-within, named-within, items-within, entries-within, parts-positionals, parts-named, parts-items, parts-entries}
-
--- ---- two runs, one after the other
-
-module _ {X : Type 0} (width : ℕ) (read : List ℕ → X) (cells : List ℕ) (first a second b : ℕ) where
-  runs-first : (k : ℕ) (x : X) → k < a
-      → getD (readEach width read a (drop first cells)) k x ≡ read (drop (inRuns width first a second b k) cells)
-  unfolding inRuns
-  runs-first k x h = each-at width read cells first a k x h ∙ rw (lt-ltb k a h)
-
-  runs-second : (k : ℕ) (x : X) → k < b
-      → getD (readEach width read b (drop second cells)) k x ≡ read (drop (inRuns width first a second b (a + k)) cells)
-  unfolding inRuns
-  runs-second k x h =
-      let e : a + k - a ≡ k = omega arith in
-      each-at width read cells second b k x h ∙ rw (le-ltb (a + k) a (omega arith), lt-ltb (a + k) (a + b) (omega arith), e)
-
-  runs-both : (k : ℕ) (x : X) → k < a + b
-      → getD (readEach width read a (drop first cells) ++ readEach width read b (drop second cells)) k x ≡ read (drop (inRuns width first a second b k) cells)
-  runs-both k x h = go (ltb k a) refl
-    where
-      xs : List X
-      xs = readEach width read a (drop first cells)
-
-      ys : List X
-      ys = readEach width read b (drop second cells)
-
-      later : (j : ℕ) → j < b → getD (xs ++ ys) (a + j) x ≡ read (drop (inRuns width first a second b (a + j)) cells)
-      later j l =
-          ap (λ (n : ℕ). getD (xs ++ ys) (n + j) x) (sym (each-length width read a (drop first cells)))
-          ∙ getD-append-add xs ys j x
-          ∙ runs-second j x l
-
-      go : (t : Bool) → ltb k a ≡ t → getD (xs ++ ys) k x ≡ read (drop (inRuns width first a second b k) cells)
-      go true e =
-          let l : k < a = ltb-true k a e in
-          List·getD-append xs ys x k (rw (each-length width read a (drop first cells)) l) ∙ runs-first k x l
-      go false e =
-          let l : a ≤ k = ltb-false k a e in
-          let j : a + (k - a) ≡ k = omega arith in
-          subst (λ (n : ℕ). getD (xs ++ ys) n x ≡ read (drop (inRuns width first a second b n) cells)) j (later (k - a) (omega arith))
-
-  -- every thing of both runs lies inside n cells where the runs do
-  runs-within : (n k : ℕ) → first + width * a ≤ n → second + width * b ≤ n → k < a + b → inRuns width first a second b k + width ≤ n
-  unfolding inRuns
-  runs-within n k f s h = go (ltb k a) refl
-    where
-      last : (j m : ℕ) → j < m → width * j + width ≤ width * m
-      last j m l = rw (sym (mul-suc width j)) (mul-le-mul-left width l)
-
-      go : (t : Bool) → ltb k a ≡ t → cond t (first + width * k) (cond (ltb k (a + b)) (second + width * (k - a)) 0) + width ≤ n
-      go true e = omega (arith, last k a (ltb-true k a e))
-      go false e =
-          let l : a ≤ k = ltb-false k a e in
-          let j : k - a < b = omega arith in
-          rw (lt-ltb k (a + b) h) (omega (arith, last (k - a) b j))
-
--- ---- a test of all is a test of each
-
-all-at : {X : Type 0} (test : X → Bool) (xs : List X) (k : ℕ) (x : X) → k < length xs → all test xs ≡ true → test (getD xs k x) ≡ true
-all-at test [] k x h e = absurd (omega arith)
-all-at test (y ∷ ys) zero x h e = and-left (test y) (all test ys) e
-all-at test (y ∷ ys) (suc k) x h e = all-at test ys k x (omega arith) (and-right (test y) (all test ys) e)
 
 -- ---- what question 10 says of a star
 
@@ -94,37 +29,28 @@ none-there : {X : Type 0} (xs : List X) → eqb (length xs) 0 ≡ true → [] �
 none-there [] e = refl
 none-there (x ∷ xs) e = let z : suc (length xs) ≡ 0 = eqb-true (suc (length xs)) 0 e in absurd (omega arith)
 
-star-items : (kind : ℕ) (vs : List Value) → kindRight kind (length vs) ≡ true → itemsOf (starOf kind vs) ≡ vs
-star-items zero vs e = none-there vs e
-star-items (suc zero) vs e = refl
-star-items (suc (suc zero)) vs e = none-there vs e
-star-items (suc (suc (suc kind))) vs e = absurd (false≢true e)
+-- kinds 0 and 2 come with nothing, kind 1 with whatever there is: for what a star of each kind has in it
+kind-part : {X : Type 0} (part : ℕ → List X → List X) → ((xs : List X) → part 0 xs ≡ []) → ((xs : List X) → part 1 xs ≡ xs) → ((xs : List X) → part 2 xs ≡ [])
+    → (kind : ℕ) (xs : List X) → kindRight kind (length xs) ≡ true → part kind xs ≡ xs
+kind-part part p q r zero xs e = p xs ∙ none-there xs e
+kind-part part p q r (suc zero) xs e = q xs
+kind-part part p q r (suc (suc zero)) xs e = r xs ∙ none-there xs e
+kind-part part p q r (suc (suc (suc kind))) xs e = absurd (false≢true e)
 
-double-entries : (kind : ℕ) (es : List Entry) → kindRight kind (length es) ≡ true → entriesOf (doubleOf kind es) ≡ es
-double-entries zero es e = none-there es e
-double-entries (suc zero) es e = refl
-double-entries (suc (suc zero)) es e = none-there es e
-double-entries (suc (suc (suc kind))) es e = absurd (false≢true e)
-
-star-kind : (kind count : ℕ) (vs : List Value) → kindRight kind count ≡ true → starPasses (starOf kind vs) ≡ not (eqb kind 2)
-star-kind zero count vs e = refl
-star-kind (suc zero) count vs e = refl
-star-kind (suc (suc zero)) count vs e = refl
-star-kind (suc (suc (suc kind))) count vs e = absurd (false≢true e)
-
-double-kind : (kind count : ℕ) (es : List Entry) → kindRight kind count ≡ true → doublePasses (doubleOf kind es) ≡ not (eqb kind 2)
-double-kind zero count es e = refl
-double-kind (suc zero) count es e = refl
-double-kind (suc (suc zero)) count es e = refl
-double-kind (suc (suc (suc kind))) count es e = absurd (false≢true e)
+-- and for a test that refuses kind 2
+kind-test : (test : ℕ → Bool) → test 0 ≡ true → test 1 ≡ true → test 2 ≡ false
+    → (kind count : ℕ) → kindRight kind count ≡ true → test kind ≡ not (eqb kind 2)
+kind-test test p q r zero count e = p
+kind-test test p q r (suc zero) count e = q
+kind-test test p q r (suc (suc zero)) count e = r
+kind-test test p q r (suc (suc (suc kind))) count e = absurd (false≢true e)
 
 -- entries whose keys are texts are named values, as written pairs are
 words-named : (area : List ℕ) (ps : List Pair) → all (λ p. eqb (p .key .kind) callText) ps ≡ true → words (map (entryIn area) ps) ≡ map (namedIn area) ps
 unfolding entryIn namedIn keyIn
 words-named area [] e = refl
 words-named area (p ∷ ps) e =
-    let rest : words (map (entryIn area) ps) ≡ map (namedIn area) ps =
-    words-named area ps (and-right (eqb (p .key .kind) callText) (all (λ q. eqb (q .key .kind) callText) ps) e) in
+    let rest = words-named area ps (and-right (eqb (p .key .kind) callText) (all (λ q. eqb (q .key .kind) callText) ps) e) in
     rw (and-left (eqb (p .key .kind) callText) (all (λ q. eqb (q .key .kind) callText) ps) e)
     (ap {B = List Named} (λ r. namedIn area p ∷ r) rest)
 
@@ -148,7 +74,8 @@ module _ (area cells : List ℕ) (h : Head) (read : h ≡ readHead cells) (ten :
   unfolding positionalsOf callIn
   positionals-runs =
       ap₂ {C = List Value} (λ vs ws. vs ++ ws) (call-positionals cells h read)
-      (star-items (readCall cells .starKind) (readCall cells .items) star-right ∙ call-items cells h read)
+      (kind-part (λ k vs. itemsOf (starOf k vs)) (λ vs. refl) (λ vs. refl) (λ vs. refl) (readCall cells .starKind) (readCall cells .items) star-right
+      ∙ call-items cells h read)
 
   pub named-run : callIn area (readCall cells) .named ≡ map (namedIn area) (pairsAt cells (namedFrom h) (h .n))
   unfolding callIn
@@ -157,7 +84,8 @@ module _ (area cells : List ℕ) (h : Head) (read : h ≡ readHead cells) (ten :
   pub entries-run : entriesOf (callIn area (readCall cells) .double) ≡ map (entryIn area) (pairsAt cells (entriesFrom h) (h .d))
   unfolding callIn
   entries-run =
-      double-entries (readCall cells .doubleKind) (map (entryIn area) (readCall cells .entries)) (rw (length-map (readCall cells .entries) (entryIn area)) double-right)
+      kind-part (λ k es. entriesOf (doubleOf k es)) (λ es. refl) (λ es. refl) (λ es. refl) (readCall cells .doubleKind) (map (entryIn area) (readCall cells .entries))
+      (rw (length-map (readCall cells .entries) (entryIn area)) double-right)
       ∙ ap (map (entryIn area)) (call-entries cells h read)
 
   -- how many there are
@@ -174,12 +102,13 @@ module _ (area cells : List ℕ) (h : Head) (read : h ≡ readHead cells) (ten :
   -- 15 and 17
   pub star-passes : starPasses (callIn area (readCall cells) .star) ≡ not (eqb (h .starKind) 2)
   unfolding callIn readCall
-  star-passes = rw read (star-kind (readCall cells .starKind) (length (readCall cells .items)) (readCall cells .items) star-right)
+  star-passes = rw read (kind-test (λ k. starPasses (starOf k (readCall cells .items))) refl refl refl (readCall cells .starKind) (length (readCall cells .items)) star-right)
 
   pub double-passes : doublePasses (callIn area (readCall cells) .double) ≡ not (eqb (h .doubleKind) 2)
   unfolding callIn readCall
   double-passes =
-      rw read (double-kind (readCall cells .doubleKind) (length (readCall cells .entries)) (map (entryIn area) (readCall cells .entries)) double-right)
+      rw read
+      (kind-test (λ k. doublePasses (doubleOf k (map (entryIn area) (readCall cells .entries)))) refl refl refl (readCall cells .doubleKind) (length (readCall cells .entries)) double-right)
 
   -- ---- a record that passes 9 too: what stands at each place
 

@@ -1,14 +1,16 @@
 -- Runs of values and of pairs in a call record's cells (01, cells, texts and records), at an index, as `rules` reads them.
 use mathlib.Core.Path.{_≡_}
-use mathlib.Core.Bool.{Bool, true}
+use mathlib.Core.Bool.{Bool, true, not}
 use mathlib.Core.List.{List, map}
 use Prim.Native.Nat.{ℕ, _+_, _*_, _≤_}
 use lib.ListN.{length, drop}
 use Rattle.rules.specs.Listing.{all}
 use Rattle.rules.specs.Cells.{readEach}
-use Rattle.rules.specs.Text.{Text}
+use Rattle.rules.specs.Text.{Text, bytesAt}
 use Rattle.rules.specs.Value.{Value, valueWidth, readValue}
 use Rattle.rules.specs.CallRecord.{Pair, pairWidth, readPair, Key, keyIn, namedIn}
+use Rattle.rules.specs.CallQuestions.{sameKey}
+use Rattle.cells.specs.Record.{pairAt}
 
 abbrev pub valuesAt : List ℕ → ℕ → ℕ → List Value
 valuesAt cells from count = readEach valueWidth readValue count (drop from cells)
@@ -21,9 +23,26 @@ pub record Formed (test : Pair → Bool) (cells : List ℕ) (from count : ℕ) :
   pub within : from + pairWidth * count ≤ length cells
   pub formed : all test (pairsAt cells from count) ≡ true
 
--- the keys of some entries and the names of some written pairs
+-- the key that stands at an index, the keys of some entries, and those of a run
+abbrev pub keyThere : List ℕ → List ℕ → ℕ → Key
+keyThere area cells at = keyIn area (pairAt cells at)
+
 abbrev pub keysOf : List ℕ → List Pair → List Key
 keysOf area ps = map (λ p. keyIn area (p .key)) ps
 
+abbrev pub keysAt : List ℕ → List ℕ → ℕ → ℕ → List Key
+keysAt area cells from count = keysOf area (pairsAt cells from count)
+
+-- the bytes of the name that stands at an index, the names of some written pairs, and those of a run
+abbrev pub nameThere : List ℕ → List ℕ → ℕ → List ℕ
+nameThere area cells at = bytesAt area (pairAt cells at .payload)
+
 abbrev pub namesOf : List ℕ → List Pair → List Text
 namesOf area ps = map (λ p. namedIn area p .name) ps
+
+abbrev pub namesAt : List ℕ → List ℕ → ℕ → ℕ → List Text
+namesAt area cells from count = namesOf area (pairsAt cells from count)
+
+-- a key that is none of some keys
+abbrev pub newKey : Key → List Key → Bool
+newKey k ks = all (λ l. not (sameKey k l)) ks

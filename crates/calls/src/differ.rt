@@ -1,5 +1,6 @@
 // Questions 12 and 13 (01, the questions, call record): no key and no written name stands twice. `names_differ` is the Rust's
-// `ArgNames::new_check_unique`.
+// `ArgNames::new_check_unique`. Both are asked of a record that passes 11, so that every key and name is well formed and the
+// bytes of a text are all there to be compared.
 // Reworked from starlark 0.14.2, src/eval/runtime/arguments.rs, Apache-2.0.
 use crate::head::PAIR;
 use cells::record::key_at;
@@ -9,21 +10,17 @@ use cells::text::same;
 use cells::value::ReadKey;
 ghost use mathlib.Core.Path.{_≡_};
 ghost use mathlib.Core.Bool.{true, not};
-ghost use lib.ListN.{drop};
-ghost use Rattle.rules.specs.Listing.{all};
-ghost use Rattle.rules.specs.Text.{sameBytes, among, differ, bytesAt};
+ghost use Rattle.rules.specs.Text.{sameBytes, among, differ};
 ghost use Rattle.rules.specs.Value.{wellFormedName, wellFormedKey};
-ghost use Rattle.rules.specs.CallRecord.{keyIn};
 ghost use Rattle.rules.specs.CallQuestions.{wellFormedPair, wellFormedEntry, sameKey, keysDiffer};
-ghost use Rattle.cells.specs.Text.{partAt};
 ghost use Rattle.cells.specs.Record.{pairAt};
-ghost use Rattle.calls.specs.Runs.{pairsAt, Formed, keysOf, namesOf};
+ghost use Rattle.calls.specs.Runs.{Formed, keyThere, keysAt, newKey, nameThere, namesAt};
 ghost use Rattle.calls.specs.Keys.{sameRead};
 
 // 12, of the `count` entries from `from` on. Each key is held against those behind it.
 pub fn keys_differ(cells: &[u64], area: &[u8], from: usize, count: usize) -> bool
     requires { ⌜ Formed (wellFormedEntry (now area)) (now cells) from count ⌝ }
-    ensures { λ r. ⌜ r ≡ keysDiffer (keysOf (now (area .entry)) (pairsAt (now (cells .entry)) from count)) ⌝ }
+    ensures { λ r. ⌜ r ≡ keysDiffer (keysAt (now (area .entry)) (now (cells .entry)) from count) ⌝ }
 {
     let mut at = from;
     let mut left = count;
@@ -41,7 +38,7 @@ pub fn keys_differ(cells: &[u64], area: &[u8], from: usize, count: usize) -> boo
 // Is the key at `key` none of those of the `count` entries from `from` on?
 fn key_new(cells: &[u64], area: &[u8], key: usize, from: usize, count: usize) -> bool
     requires { ⌜ (wellFormedKey (now area) (pairAt (now cells) key) ≡ true) × Formed (wellFormedEntry (now area)) (now cells) from count ⌝ }
-    ensures { λ r. ⌜ r ≡ all (λ l. not (sameKey (keyIn (now (area .entry)) (pairAt (now (cells .entry)) key)) l)) (keysOf (now (area .entry)) (pairsAt (now (cells .entry)) from count)) ⌝ }
+    ensures { λ r. ⌜ r ≡ newKey (keyThere (now (area .entry)) (now (cells .entry)) key) (keysAt (now (area .entry)) (now (cells .entry)) from count) ⌝ }
 {
     let mut at = from;
     let mut left = count;
@@ -55,9 +52,10 @@ fn key_new(cells: &[u64], area: &[u8], key: usize, from: usize, count: usize) ->
     true
 }
 
+// Are the keys at two indices equal?
 fn same_key(cells: &[u64], area: &[u8], a: usize, b: usize) -> bool
     requires { ⌜ (wellFormedKey (now area) (pairAt (now cells) a) ≡ true) × (wellFormedKey (now area) (pairAt (now cells) b) ≡ true) ⌝ }
-    ensures { λ r. ⌜ r ≡ sameKey (keyIn (now (area .entry)) (pairAt (now (cells .entry)) a)) (keyIn (now (area .entry)) (pairAt (now (cells .entry)) b)) ⌝ }
+    ensures { λ r. ⌜ r ≡ sameKey (keyThere (now (area .entry)) (now (cells .entry)) a) (keyThere (now (area .entry)) (now (cells .entry)) b) ⌝ }
 {
     same_read(area, key_at(area, cells, a), key_at(area, cells, b))
 }
@@ -81,10 +79,10 @@ fn same_read(area: &[u8], a: ReadKey, b: ReadKey) -> bool
     }
 }
 
-// 13, of the `count` written pairs from `from` on.
+// 13, of the `count` written pairs from `from` on. The Rust puts the names into a set; a plain search takes its place.
 pub fn names_differ(cells: &[u64], area: &[u8], from: usize, count: usize) -> bool
     requires { ⌜ Formed (wellFormedPair (now area)) (now cells) from count ⌝ }
-    ensures { λ r. ⌜ r ≡ differ (namesOf (now (area .entry)) (pairsAt (now (cells .entry)) from count)) ⌝ }
+    ensures { λ r. ⌜ r ≡ differ (namesAt (now (area .entry)) (now (cells .entry)) from count) ⌝ }
 {
     let mut at = from;
     let mut left = count;
@@ -102,7 +100,7 @@ pub fn names_differ(cells: &[u64], area: &[u8], from: usize, count: usize) -> bo
 // Is the name at `name` none of those of the `count` written pairs from `from` on?
 fn name_new(cells: &[u64], area: &[u8], name: usize, from: usize, count: usize) -> bool
     requires { ⌜ (wellFormedName (now area) (pairAt (now cells) name) ≡ true) × Formed (wellFormedPair (now area)) (now cells) from count ⌝ }
-    ensures { λ r. ⌜ r ≡ not (among (bytesAt (now (area .entry)) (pairAt (now (cells .entry)) name .payload)) (namesOf (now (area .entry)) (pairsAt (now (cells .entry)) from count))) ⌝ }
+    ensures { λ r. ⌜ r ≡ not (among (nameThere (now (area .entry)) (now (cells .entry)) name) (namesAt (now (area .entry)) (now (cells .entry)) from count)) ⌝ }
 {
     let mut at = from;
     let mut left = count;
@@ -116,9 +114,10 @@ fn name_new(cells: &[u64], area: &[u8], name: usize, from: usize, count: usize) 
     true
 }
 
+// Are the names at two indices equal?
 fn same_name(cells: &[u64], area: &[u8], a: usize, b: usize) -> bool
     requires { ⌜ (wellFormedName (now area) (pairAt (now cells) a) ≡ true) × (wellFormedName (now area) (pairAt (now cells) b) ≡ true) ⌝ }
-    ensures { λ r. ⌜ r ≡ sameBytes (bytesAt (now (area .entry)) (pairAt (now (cells .entry)) a .payload)) (bytesAt (now (area .entry)) (pairAt (now (cells .entry)) b .payload)) ⌝ }
+    ensures { λ r. ⌜ r ≡ sameBytes (nameThere (now (area .entry)) (now (cells .entry)) a) (nameThere (now (area .entry)) (now (cells .entry)) b) ⌝ }
 {
     let x = pair_at(cells, a);
     let y = pair_at(cells, b);

@@ -19,7 +19,7 @@ ghost use mathlib.Core.Bool.{true};
 ghost use Prim.Native.Nat.{_+_, _*_, _≤_};
 ghost use lib.ListN.{length, drop};
 ghost use Rattle.rules.specs.Listing.{all};
-ghost use Rattle.rules.specs.Value.{valueWidth, wellFormedArgument, wellFormedName, wellFormedKey};
+ghost use Rattle.rules.specs.Value.{valueWidth, wellFormedArgument};
 ghost use Rattle.rules.specs.CallRecord.{pairWidth, readPair, readCall};
 ghost use Rattle.rules.specs.CallQuestions.{lengthsRight, kindRight, kindsRight, wellFormedPair, wellFormedEntry, partsWellFormed};
 ghost use Rattle.cells.specs.Record.{pairAt};

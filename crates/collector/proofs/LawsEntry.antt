@@ -65,7 +65,7 @@ module _ (qs : List Parameter) (cells area : List ℕ) (P : List Value) (N : Lis
 -- ---- a key that is well formed
 
 -- one that is a text lies inside the area
-key-inside : (area : List ℕ) (v : Value) → wellFormedKey area v ≡ true → eqb (v .kind) callText ≡ true → inside area (v .payload) ≡ true
+pub key-inside : (area : List ℕ) (v : Value) → wellFormedKey area v ≡ true → eqb (v .kind) callText ≡ true → inside area (v .payload) ≡ true
 unfolding wellFormedKey isText callText
 key-inside area v e k = go (eqb (v .kind) 3) refl e
   where

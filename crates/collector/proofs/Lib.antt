@@ -6,3 +6,4 @@ pub mod LawsBoard
 pub mod LawsNames
 pub mod LawsEntries
 pub mod LawsEntry
+pub mod LawsLoop

@@ -4,3 +4,4 @@ pub mod Found
 pub mod Resolved
 pub mod Resolve
 pub mod Entries
+pub mod EntriesDone

@@ -1,12 +1,16 @@
 // The entries of a call's dictionary (01, questions 18 and 19), asked one by one before anything is written, and resolved like the
 // written names. Reworked from starlark 0.14.2, src/eval/runtime/params/spec.rs (collect_slow), Apache-2.0.
 use builder::spec::ParametersSpec;
+use calls::head::Head;
+use calls::head::PAIR;
+use calls::head::entries_from;
 use cells::record::key_at;
 use cells::record::pair_at;
 use cells::text::part;
 use cells::text::same;
 use cells::value::ReadKey;
 use crate::resolve::NAMED;
+use crate::resolve::enter;
 use lookup::Finding;
 use lookup::get_str;
 ghost use mathlib.Core.Path.{_≡_};
@@ -14,6 +18,44 @@ ghost use Rattle.rules.specs.Text.{among};
 ghost use Rattle.rules.specs.Binding.{textsOf};
 ghost use Rattle.collector.specs.Resolve.{Below};
 ghost use Rattle.collector.specs.Entries.{Held, heldNames, takenBy, wordAt, enteredAt};
+ghost use Rattle.collector.specs.EntriesDone.{EntriesReady, EntriesDone};
+ghost use Rattle.calls.specs.Head.{headOf};
+
+// What resolving all the entries answers: how many pairs the remainder then has, or the first refusal.
+pub enum Entries {
+    All(usize),
+    // 18
+    NotText,
+    // 19: the key
+    Repeated(u64),
+}
+
+// All the entries, after the written names.
+pub fn resolve_entries(list: ParametersSpec, spec: &[u8], cells: &[u64], area: &[u8], h: Head, next: usize, sources: &mut [usize; 64], rest: &mut [usize; NAMED], before: usize) -> Entries
+    requires { ⌜ EntriesReady (now spec) list (now cells) (now area) (headOf h) next (now sources) (now rest) before ⌝ }
+    ensures { λ r. ⌜ EntriesDone (now (spec .entry)) list (now (cells .entry)) (now (area .entry)) (headOf h) next (now (sources .exit)) (now (rest .exit)) r ⌝ }
+{
+    let from = entries_from(h);
+    let mut count = before;
+    let mut k = 0;
+    while k < h.d {
+        let pair = from + PAIR * k;
+        let entered = entry_at(list, spec, cells, area, pair, next, sources, rest, count);
+        match entered {
+            Entered::NotText => {
+                return Entries::NotText;
+            }
+            Entered::Repeated(payload) => {
+                return Entries::Repeated(payload);
+            }
+            Entered::Free(found) => {
+                count = enter(found, pair, sources, rest, count);
+            }
+        }
+        k += 1;
+    }
+    Entries::All(count)
+}
 
 // What 18 and 19 answer for one entry: the parameter that it may fill, or the refusal.
 pub enum Entered {

@@ -81,4 +81,18 @@ returns-4 c =
     rw (form-passed (k .before .before .before .before), twelve (k .before) ∙ not-false _ (k .if1 .left), thirteen (c .before) ∙ not-false _ (c .if2 .left))
 
 pub ask-call-spec : {M : Type 1} → statement M
-ask-call-spec = tie.close (tie.spec ask-form-requires enum-told returns enum-told-2 read-head-requires entries-from-requires keys-differ-requires returns-2 named-from-requires names-differ-requires returns-3 returns-4)
+ask-call-spec =
+    tie.close
+    (tie.spec
+    ask-form-requires
+    enum-told
+    returns
+    enum-told-2
+    read-head-requires
+    entries-from-requires
+    keys-differ-requires
+    returns-2
+    named-from-requires
+    names-differ-requires
+    returns-3
+    returns-4)

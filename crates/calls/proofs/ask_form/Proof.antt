@@ -54,4 +54,13 @@ returns-4 c =
     )
 
 pub ask-form-spec : {M : Type 1} → statement M
-ask-form-spec = tie.close (tie.spec lengths-right-requires returns kinds-right-requires returns-2 parts-formed-requires returns-3 returns-4)
+ask-form-spec =
+    tie.close
+    (tie.spec
+    lengths-right-requires
+    returns
+    kinds-right-requires
+    returns-2
+    parts-formed-requires
+    returns-3
+    returns-4)

@@ -2,36 +2,31 @@
 -- none of what is left. The measure is how many are left.
 -- Assumes nothing.
 use mathlib.Core.Path.{_≡_, refl, sym, ap, _∙_}
-use mathlib.Core.Bool.{Bool, not, _&&_}
-use mathlib.Core.List.{List, _∷_}
-use Prim.Native.Nat.{ℕ, _+_}
+use mathlib.Core.Bool.{Bool, not}
+use mathlib.Core.List.{List}
+use Prim.Native.Nat.{ℕ}
 use native.Mathlib.Omega.{arith}
 use borrow.Author.Needs.{needs}
-use Rattle.rules.specs.CallRecord.{Pair, pairWidth, readPair, keyIn}
-use Rattle.rules.specs.Listing.{all}
+use Rattle.rules.specs.CallRecord.{Pair, pairWidth, readPair, Key, keyIn}
 use Rattle.rules.specs.CallQuestions.{wellFormedEntry, sameKey}
 use Rattle.cells.specs.Record.{pairAt}
-use Rattle.calls.specs.Runs.{pairsAt, Formed, keysOf}
+use Rattle.calls.specs.Runs.{pairsAt, Formed, keyThere, keysOf, newKey}
 use Rattle.calls.proofs.LawsEach.{each-none, each-passes, each-fails, formed-first, formed-next}
 use Rattle.calls.proofs.LawsForm.{entry-key}
 use Rattle.calls.proofs.differ.key_new.Statement.{statement}
 use Rattle.calls.proofs.differ.key_new.Tie as tie
 
--- the key is none of those of some entries; of the first of them; and by the first and the others
-abbrev holds : List ℕ → List ℕ → ℕ → List Pair → Bool
-holds area cells key ps = all (λ l. not (sameKey (keyIn area (pairAt cells key)) l)) (keysOf area ps)
+-- a key is none of those of some entries; and it is not that of the first
+abbrev holds : List ℕ → Key → List Pair → Bool
+holds area k ps = newKey k (keysOf area ps)
 
-abbrev first : List ℕ → List ℕ → ℕ → Pair → List Pair → Bool
-first area cells key p ps = not (sameKey (keyIn area (pairAt cells key)) (keyIn area (p .key)))
-
-step : (area cells : List ℕ) (key : ℕ) (p : Pair) (ps : List Pair) → holds area cells key (p ∷ ps) ≡ (first area cells key p ps && holds area cells key ps)
-step area cells key p ps = refl
+abbrev first : List ℕ → Key → Pair → List Pair → Bool
+first area k p ps = not (sameKey k (keyIn area (p .key)))
 
 abbrev Inv-loop : tie.InvT-loop
 Inv-loop cells area key from count at₀ left₀ at left =
     Formed (wellFormedEntry area) cells at left
-    × (holds area cells key (pairsAt cells from count)
-    ≡ holds area cells key (pairsAt cells at left))
+    × (holds area (keyThere area cells key) (pairsAt cells from count) ≡ holds area (keyThere area cells key) (pairsAt cells at left))
 
 abbrev μ-loop : tie.MeasureT-loop
 μ-loop cells area key from count at₀ left₀ at left = left
@@ -50,9 +45,11 @@ unfolding pairWidth readPair pairAt
 returns c =
     let l = c .before .before .before in
     let a = l .before .before .before .args in
+    let k = keyThere (a .area .now) (a .cells .now) (a .key) in
     sym
     (l .loop .inv .1
-    ∙ each-fails pairWidth readPair (first (a .area .now) (a .cells .now) (a .key)) (holds (a .area .now) (a .cells .now) (a .key)) (step (a .area .now) (a .cells .now) (a .key)) _ (l .loop .at) _ (c .before .before .loop-test .taken) (ap not (sym (c .before .same-key .ensures) ∙ c .if1 .taken)))
+    ∙ each-fails pairWidth readPair (first (a .area .now) k) (holds (a .area .now) k) (λ p ps. refl) _ (l .loop .at) _ (c .before .before .loop-test .taken)
+    (ap not (sym (c .before .same-key .ensures) ∙ c .if1 .taken)))
 
 add-at : tie.Need-add-at Inv-loop μ-loop
 unfolding pairWidth
@@ -68,16 +65,30 @@ loop-again : tie.Need-loop-again Inv-loop μ-loop
 unfolding pairWidth readPair pairAt
 loop-again c =
     let l = c .before .before .before in
-    let a = l .before .before .before .args in (
+    let a = l .before .before .before .args in
+    let k = keyThere (a .area .now) (a .cells .now) (a .key) in (
       formed-next _ _ _ _ (c .before .before .loop-test .taken) (l .loop .inv .0),
       l .loop .inv .1
-          ∙ each-passes pairWidth readPair (first (a .area .now) (a .cells .now) (a .key)) (holds (a .area .now) (a .cells .now) (a .key)) (step (a .area .now) (a .cells .now) (a .key)) _ (l .loop .at) _ (c .before .before .loop-test .taken) (ap not (sym (c .before .same-key .ensures) ∙ c .if1 .left)),
+          ∙ each-passes pairWidth readPair (first (a .area .now) k) (holds (a .area .now) k) (λ p ps. refl) _ (l .loop .at) _ (c .before .before .loop-test .taken)
+          (ap not (sym (c .before .same-key .ensures) ∙ c .if1 .left)),
     )
 
 returns-2 : tie.Need-returns-2 Inv-loop μ-loop
 returns-2 c =
     let a = c .before .before .before .before .args in
-    sym (c .before .loop .inv .1 ∙ ap (holds (a .area .now) (a .cells .now) (a .key)) (each-none pairWidth readPair _ _ (c .loop-test .left)))
+    sym (c .before .loop .inv .1 ∙ ap (holds (a .area .now) (keyThere (a .area .now) (a .cells .now) (a .key))) (each-none pairWidth readPair _ _ (c .loop-test .left)))
 
 pub key-new-spec : {M : Type 1} → statement M
-key-new-spec = tie.close (tie.spec Inv-loop μ-loop loop-holds same-key-requires returns add-at sub-left loop-less loop-again returns-2)
+key-new-spec =
+    tie.close
+    (tie.spec
+    Inv-loop
+    μ-loop
+    loop-holds
+    same-key-requires
+    returns
+    add-at
+    sub-left
+    loop-less
+    loop-again
+    returns-2)

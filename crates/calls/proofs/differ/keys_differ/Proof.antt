@@ -2,17 +2,16 @@
 -- of what is left does. The measure is how many are left.
 -- Assumes nothing.
 use mathlib.Core.Path.{_≡_, refl, sym, ap, _∙_}
-use mathlib.Core.Bool.{Bool, not}
+use mathlib.Core.Bool.{Bool}
 use mathlib.Core.List.{List}
 use Prim.Native.Nat.{ℕ}
 use native.Mathlib.Omega.{arith}
 use borrow.Author.Tests.{not-true, not-false}
 use borrow.Author.Needs.{needs}
-use Rattle.rules.specs.Listing.{all}
 use Rattle.rules.specs.CallRecord.{Pair, pairWidth, readPair, keyIn}
-use Rattle.rules.specs.CallQuestions.{wellFormedEntry, sameKey, keysDiffer}
+use Rattle.rules.specs.CallQuestions.{wellFormedEntry, keysDiffer}
 use Rattle.cells.specs.Record.{pairAt}
-use Rattle.calls.specs.Runs.{pairsAt, Formed, keysOf}
+use Rattle.calls.specs.Runs.{pairsAt, Formed, keysOf, newKey}
 use Rattle.calls.proofs.LawsEach.{each-none, each-passes, each-fails, formed-first, formed-next}
 use Rattle.calls.proofs.LawsForm.{entry-key}
 use Rattle.calls.proofs.differ.keys_differ.Statement.{statement}
@@ -23,7 +22,7 @@ abbrev holds : List ℕ → List Pair → Bool
 holds area ps = keysDiffer (keysOf area ps)
 
 abbrev first : List ℕ → Pair → List Pair → Bool
-first area p ps = all (λ l. not (sameKey (keyIn area (p .key)) l)) (keysOf area ps)
+first area p ps = newKey (keyIn area (p .key)) (keysOf area ps)
 
 abbrev Inv-loop : tie.InvT-loop
 Inv-loop cells area from count at₀ left₀ at left =
@@ -57,7 +56,8 @@ returns c =
     let area = l .before .before .before .args .area .now in
     sym
     (l .loop .inv .1
-    ∙ each-fails pairWidth readPair (first area) (holds area) (λ p ps. refl) _ (l .loop .at) _ (c .before .before .loop-test .taken) (sym (c .before .key-new .ensures) ∙ not-true _ (c .if1 .taken)))
+    ∙ each-fails pairWidth readPair (first area) (holds area) (λ p ps. refl) _ (l .loop .at) _ (c .before .before .loop-test .taken)
+    (sym (c .before .key-new .ensures) ∙ not-true _ (c .if1 .taken)))
 
 loop-less : tie.Need-loop-less Inv-loop μ-loop
 loop-less c = omega arith
@@ -69,7 +69,8 @@ loop-again c =
     let area = l .before .before .before .args .area .now in (
       formed-next _ _ _ _ (c .before .before .loop-test .taken) (l .loop .inv .0),
       l .loop .inv .1
-          ∙ each-passes pairWidth readPair (first area) (holds area) (λ p ps. refl) _ (l .loop .at) _ (c .before .before .loop-test .taken) (sym (c .before .key-new .ensures) ∙ not-false _ (c .if1 .left)),
+          ∙ each-passes pairWidth readPair (first area) (holds area) (λ p ps. refl) _ (l .loop .at) _ (c .before .before .loop-test .taken)
+          (sym (c .before .key-new .ensures) ∙ not-false _ (c .if1 .left)),
     )
 
 returns-2 : tie.Need-returns-2 Inv-loop μ-loop
@@ -78,4 +79,16 @@ returns-2 c =
     sym (c .before .loop .inv .1 ∙ ap (holds area) (each-none pairWidth readPair _ _ (c .loop-test .left)))
 
 pub keys-differ-spec : {M : Type 1} → statement M
-keys-differ-spec = tie.close (tie.spec Inv-loop μ-loop loop-holds add-next sub-left key-new-requires returns loop-less loop-again returns-2)
+keys-differ-spec =
+    tie.close
+    (tie.spec
+    Inv-loop
+    μ-loop
+    loop-holds
+    add-next
+    sub-left
+    key-new-requires
+    returns
+    loop-less
+    loop-again
+    returns-2)

@@ -4,35 +4,34 @@
 use mathlib.Core.Path.{_≡_, refl, sym, ap, _∙_}
 use mathlib.Core.Bool.{Bool, not, _&&_}
 use mathlib.Core.List.{List, _∷_}
-use Prim.Native.Nat.{ℕ, _+_}
+use Prim.Native.Nat.{ℕ}
 use native.Mathlib.Omega.{arith}
 use borrow.Author.Needs.{needs}
 use Rattle.rules.specs.CallRecord.{Pair, pairWidth, readPair, namedIn}
-use Rattle.rules.specs.Text.{sameBytes, among, bytesAt, textIn}
+use Rattle.rules.specs.Text.{sameBytes, among, textIn}
 use Rattle.rules.specs.CallQuestions.{wellFormedPair}
 use Rattle.cells.specs.Record.{pairAt}
-use Rattle.calls.specs.Runs.{pairsAt, Formed, namesOf}
+use Rattle.calls.specs.Runs.{pairsAt, Formed, nameThere, namesOf}
 use Rattle.calls.proofs.LawsEach.{each-none, each-passes, each-fails, formed-first, formed-next}
 use Rattle.calls.proofs.LawsForm.{pair-name}
 use Rattle.calls.proofs.LawsKeys.{among-first}
 use Rattle.calls.proofs.differ.name_new.Statement.{statement}
 use Rattle.calls.proofs.differ.name_new.Tie as tie
 
--- the name is none of those of some pairs; of the first of them; and by the first and the others
-abbrev holds : List ℕ → List ℕ → ℕ → List Pair → Bool
-holds area cells name ps = not (among (bytesAt area (pairAt cells name .payload)) (namesOf area ps))
+-- bytes are none of the names of some pairs; they are not the name of the first; and the first and the others make up the whole
+abbrev holds : List ℕ → List ℕ → List Pair → Bool
+holds area bytes ps = not (among bytes (namesOf area ps))
 
-abbrev first : List ℕ → List ℕ → ℕ → Pair → List Pair → Bool
-first area cells name p ps = not (sameBytes (bytesAt area (pairAt cells name .payload)) (namedIn area p .name .bytes))
+abbrev first : List ℕ → List ℕ → Pair → List Pair → Bool
+first area bytes p ps = not (sameBytes bytes (namedIn area p .name .bytes))
 
-step : (area cells : List ℕ) (name : ℕ) (p : Pair) (ps : List Pair) → holds area cells name (p ∷ ps) ≡ (first area cells name p ps && holds area cells name ps)
-step area cells name p ps = among-first (bytesAt area (pairAt cells name .payload)) (namedIn area p .name) (namesOf area ps)
+step : (area bytes : List ℕ) (p : Pair) (ps : List Pair) → holds area bytes (p ∷ ps) ≡ (first area bytes p ps && holds area bytes ps)
+step area bytes p ps = among-first bytes (namedIn area p .name) (namesOf area ps)
 
 abbrev Inv-loop : tie.InvT-loop
 Inv-loop cells area name from count at₀ left₀ at left =
     Formed (wellFormedPair area) cells at left
-    × (holds area cells name (pairsAt cells from count)
-    ≡ holds area cells name (pairsAt cells at left))
+    × (holds area (nameThere area cells name) (pairsAt cells from count) ≡ holds area (nameThere area cells name) (pairsAt cells at left))
 
 abbrev μ-loop : tie.MeasureT-loop
 μ-loop cells area name from count at₀ left₀ at left = left
@@ -51,9 +50,11 @@ unfolding pairWidth readPair namedIn textIn pairAt
 returns c =
     let l = c .before .before .before in
     let a = l .before .before .before .args in
+    let k = nameThere (a .area .now) (a .cells .now) (a .name) in
     sym
     (l .loop .inv .1
-    ∙ each-fails pairWidth readPair (first (a .area .now) (a .cells .now) (a .name)) (holds (a .area .now) (a .cells .now) (a .name)) (step (a .area .now) (a .cells .now) (a .name)) _ (l .loop .at) _ (c .before .before .loop-test .taken) (ap not (sym (c .before .same-name .ensures) ∙ c .if1 .taken)))
+    ∙ each-fails pairWidth readPair (first (a .area .now) k) (holds (a .area .now) k) (step (a .area .now) k) _ (l .loop .at) _ (c .before .before .loop-test .taken)
+    (ap not (sym (c .before .same-name .ensures) ∙ c .if1 .taken)))
 
 add-at : tie.Need-add-at Inv-loop μ-loop
 unfolding pairWidth
@@ -69,16 +70,30 @@ loop-again : tie.Need-loop-again Inv-loop μ-loop
 unfolding pairWidth readPair namedIn textIn pairAt
 loop-again c =
     let l = c .before .before .before in
-    let a = l .before .before .before .args in (
+    let a = l .before .before .before .args in
+    let k = nameThere (a .area .now) (a .cells .now) (a .name) in (
       formed-next _ _ _ _ (c .before .before .loop-test .taken) (l .loop .inv .0),
       l .loop .inv .1
-          ∙ each-passes pairWidth readPair (first (a .area .now) (a .cells .now) (a .name)) (holds (a .area .now) (a .cells .now) (a .name)) (step (a .area .now) (a .cells .now) (a .name)) _ (l .loop .at) _ (c .before .before .loop-test .taken) (ap not (sym (c .before .same-name .ensures) ∙ c .if1 .left)),
+          ∙ each-passes pairWidth readPair (first (a .area .now) k) (holds (a .area .now) k) (step (a .area .now) k) _ (l .loop .at) _ (c .before .before .loop-test .taken)
+          (ap not (sym (c .before .same-name .ensures) ∙ c .if1 .left)),
     )
 
 returns-2 : tie.Need-returns-2 Inv-loop μ-loop
 returns-2 c =
     let a = c .before .before .before .before .args in
-    sym (c .before .loop .inv .1 ∙ ap (holds (a .area .now) (a .cells .now) (a .name)) (each-none pairWidth readPair _ _ (c .loop-test .left)))
+    sym (c .before .loop .inv .1 ∙ ap (holds (a .area .now) (nameThere (a .area .now) (a .cells .now) (a .name))) (each-none pairWidth readPair _ _ (c .loop-test .left)))
 
 pub name-new-spec : {M : Type 1} → statement M
-name-new-spec = tie.close (tie.spec Inv-loop μ-loop loop-holds same-name-requires returns add-at sub-left loop-less loop-again returns-2)
+name-new-spec =
+    tie.close
+    (tie.spec
+    Inv-loop
+    μ-loop
+    loop-holds
+    same-name-requires
+    returns
+    add-at
+    sub-left
+    loop-less
+    loop-again
+    returns-2)

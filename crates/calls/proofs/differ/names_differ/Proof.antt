@@ -57,7 +57,8 @@ returns c =
     let area = l .before .before .before .args .area .now in
     sym
     (l .loop .inv .1
-    ∙ each-fails pairWidth readPair (first area) (holds area) (λ p ps. refl) _ (l .loop .at) _ (c .before .before .loop-test .taken) (sym (c .before .name-new .ensures) ∙ not-true _ (c .if1 .taken)))
+    ∙ each-fails pairWidth readPair (first area) (holds area) (λ p ps. refl) _ (l .loop .at) _ (c .before .before .loop-test .taken)
+    (sym (c .before .name-new .ensures) ∙ not-true _ (c .if1 .taken)))
 
 loop-less : tie.Need-loop-less Inv-loop μ-loop
 loop-less c = omega arith
@@ -69,7 +70,8 @@ loop-again c =
     let area = l .before .before .before .args .area .now in (
       formed-next _ _ _ _ (c .before .before .loop-test .taken) (l .loop .inv .0),
       l .loop .inv .1
-          ∙ each-passes pairWidth readPair (first area) (holds area) (λ p ps. refl) _ (l .loop .at) _ (c .before .before .loop-test .taken) (sym (c .before .name-new .ensures) ∙ not-false _ (c .if1 .left)),
+          ∙ each-passes pairWidth readPair (first area) (holds area) (λ p ps. refl) _ (l .loop .at) _ (c .before .before .loop-test .taken)
+          (sym (c .before .name-new .ensures) ∙ not-false _ (c .if1 .left)),
     )
 
 returns-2 : tie.Need-returns-2 Inv-loop μ-loop
@@ -78,4 +80,16 @@ returns-2 c =
     sym (c .before .loop .inv .1 ∙ ap (holds area) (each-none pairWidth readPair _ _ (c .loop-test .left)))
 
 pub names-differ-spec : {M : Type 1} → statement M
-names-differ-spec = tie.close (tie.spec Inv-loop μ-loop loop-holds add-next sub-left name-new-requires returns loop-less loop-again returns-2)
+names-differ-spec =
+    tie.close
+    (tie.spec
+    Inv-loop
+    μ-loop
+    loop-holds
+    add-next
+    sub-left
+    name-new-requires
+    returns
+    loop-less
+    loop-again
+    returns-2)

@@ -1,10 +1,10 @@
 -- `calls::differ::same_name` meets its contract: the bytes of each name are those of the part of the area.
 -- Assumes nothing.
-use mathlib.Core.Path.{_≡_, ap, ap₂, _∙_}
+use mathlib.Core.Path.{ap, ap₂, _∙_}
 use mathlib.Core.List.{List}
 use Prim.Native.Nat.{ℕ}
 use borrow.Author.Needs.{needs}
-use Rattle.rules.specs.Text.{sameBytes, bytesAt}
+use Rattle.rules.specs.Text.{sameBytes}
 use Rattle.rules.specs.Value.{Value}
 use Rattle.cells.specs.Text.{partAt}
 use Rattle.calls.proofs.LawsKeys.{name-part}
@@ -40,4 +40,12 @@ returns c =
     (q .part2 .ensures ∙ ap payload (y .pair-at2 .ensures) ∙ name-part _ _ (s .pre .1))
 
 pub same-name-spec : {M : Type 1} → statement M
-same-name-spec = tie.close (tie.spec pair-at-requires pair-at-requires-2 part-requires part-requires-2 same-requires returns)
+same-name-spec =
+    tie.close
+    (tie.spec
+    pair-at-requires
+    pair-at-requires-2
+    part-requires
+    part-requires-2
+    same-requires
+    returns)

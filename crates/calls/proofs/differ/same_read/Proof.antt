@@ -1,6 +1,6 @@
 -- `calls::differ::same_read` meets its contract, case by case.
 -- Assumes nothing.
-use mathlib.Core.Path.{_≡_, sym, ap, ap₂, _∙_}
+use mathlib.Core.Path.{sym, ap, ap₂, _∙_}
 use borrow.Author.Needs.{needs}
 use Rattle.rules.specs.Text.{sameBytes}
 use Rattle.cells.specs.Text.{partAt}
@@ -83,4 +83,27 @@ returns-7 : tie.Need-returns-7
 returns-7 c = search needs
 
 pub same-read-spec : {M : Type 1} → statement M
-same-read-spec = tie.close (tie.spec enum-known-a enum-known-b payload-requires part-requires payload-requires-2 part-requires-2 same-requires enum-told enum-told-2 enum-known-a-2 enum-told-3 enum-known-b-2 enum-told-4 enum-told-5 returns returns-2 returns-3 returns-4 returns-5 returns-6 returns-7)
+same-read-spec =
+    tie.close
+    (tie.spec
+    enum-known-a
+    enum-known-b
+    payload-requires
+    part-requires
+    payload-requires-2
+    part-requires-2
+    same-requires
+    enum-told
+    enum-told-2
+    enum-known-a-2
+    enum-told-3
+    enum-known-b-2
+    enum-told-4
+    enum-told-5
+    returns
+    returns-2
+    returns-3
+    returns-4
+    returns-5
+    returns-6
+    returns-7)

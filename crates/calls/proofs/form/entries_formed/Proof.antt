@@ -62,4 +62,16 @@ returns-2 c =
     sym (c .before .loop .inv .1 ∙ ap (all (wellFormedEntry (s .area .now))) (each-none pairWidth readPair _ _ (c .loop-test .left)))
 
 pub entries-formed-spec : {M : Type 1} → statement M
-entries-formed-spec = tie.close (tie.spec Inv-loop μ-loop loop-holds entry-formed-requires returns add-at sub-left loop-less loop-again returns-2)
+entries-formed-spec =
+    tie.close
+    (tie.spec
+    Inv-loop
+    μ-loop
+    loop-holds
+    entry-formed-requires
+    returns
+    add-at
+    sub-left
+    loop-less
+    loop-again
+    returns-2)

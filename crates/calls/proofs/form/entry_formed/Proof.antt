@@ -47,4 +47,17 @@ returns-3 : tie.Need-returns-3
 returns-3 c = entry-formed _ _ _ _ (sym (c .enum-told3 .given .1) ∙ c .before .before .key-at .ensures)
 
 pub entry-formed-spec : {M : Type 1} → statement M
-entry-formed-spec = tie.close (tie.spec key-at-requires enum-told add-value-formed value-formed-requires enum-told-2 add-value-formed-2 value-formed-requires-2 enum-told-3 returns returns-2 returns-3)
+entry-formed-spec =
+    tie.close
+    (tie.spec
+    key-at-requires
+    enum-told
+    add-value-formed
+    value-formed-requires
+    enum-told-2
+    add-value-formed-2
+    value-formed-requires-2
+    enum-told-3
+    returns
+    returns-2
+    returns-3)

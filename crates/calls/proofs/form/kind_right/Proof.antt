@@ -1,8 +1,7 @@
 -- `calls::form::kind_right` meets its contract: the three kinds, and none past them.
 -- Assumes nothing.
-use borrow.Author.Needs.{needs}
 use Rattle.calls.proofs.LawsCall.{kind-past}
-use mathlib.Core.Path.{refl, sym}
+use mathlib.Core.Path.{sym}
 use Rattle.calls.proofs.form.kind_right.Statement.{statement}
 use Rattle.calls.proofs.form.kind_right.Tie as tie
 

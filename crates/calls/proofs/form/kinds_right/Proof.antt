@@ -1,9 +1,8 @@
 -- `calls::form::kinds_right` meets its contract: question 10 by the head that was read.
 -- Assumes nothing.
-use mathlib.Core.Path.{_≡_, refl, sym, ap, ap₂, _∙_}
+use mathlib.Core.Path.{sym, _∙_}
 use borrow.Author.Tests.{not-true, not-false}
 use borrow.Author.Needs.{needs}
-use mathlib.Core.Bool.{_&&_}
 use Rattle.calls.proofs.LawsCall.{kinds-by}
 use Rattle.calls.proofs.form.kinds_right.Statement.{statement}
 use Rattle.calls.proofs.form.kinds_right.Tie as tie
@@ -29,4 +28,11 @@ returns-2 c =
     ∙ sym (kinds-by _ _ (k .before .read-head .ensures) ∙ rw (sym (k .kind-right .ensures) ∙ not-false _ (c .before .if1 .left)))
 
 pub kinds-right-spec : {M : Type 1} → statement M
-kinds-right-spec = tie.close (tie.spec read-head-requires kind-right-requires returns kind-right-requires-2 returns-2)
+kinds-right-spec =
+    tie.close
+    (tie.spec
+    read-head-requires
+    kind-right-requires
+    returns
+    kind-right-requires-2
+    returns-2)

@@ -1,16 +1,12 @@
 -- `calls::form::lengths_right` meets its contract: question 9 by the head that was read.
 -- Assumes nothing.
-use mathlib.Core.Path.{_≡_, refl, sym, ap, ap₂, _∙_}
-use mathlib.Core.Bool.{_&&_}
+use mathlib.Core.Path.{sym, _∙_}
 use native.Mathlib.Omega.{arith}
-use Prim.Native.Nat.{ℕ}
-use lib.Dec.{eqb}
-use lib.ListN.{length}
 use borrow.Author.Tests.{not-true, not-false}
 use borrow.Author.Needs.{needs}
 use Rattle.rules.specs.Value.{valueWidth}
 use Rattle.rules.specs.CallRecord.{headWidth, pairWidth, callLength}
-use Rattle.calls.specs.Head.{headOf, atMost, Few, namedFrom, itemsFrom, entriesFrom}
+use Rattle.calls.specs.Head.{headOf, Few, namedFrom, itemsFrom, entriesFrom}
 use Rattle.calls.proofs.LawsCall.{few-bounds, lengths-by}
 use Rattle.calls.proofs.form.lengths_right.Statement.{statement}
 use Rattle.calls.proofs.form.lengths_right.Tie as tie
@@ -53,4 +49,13 @@ returns-2 c =
     ∙ rw (sym (i .before .few .ensures) ∙ not-false _ (i .if1 .left), c .before .entries-from .ensures))
 
 pub lengths-right-spec : {M : Type 1} → statement M
-lengths-right-spec = tie.close (tie.spec read-head-requires few-requires returns entries-from-requires mul-result add-result returns-2)
+lengths-right-spec =
+    tie.close
+    (tie.spec
+    read-head-requires
+    few-requires
+    returns
+    entries-from-requires
+    mul-result
+    add-result
+    returns-2)

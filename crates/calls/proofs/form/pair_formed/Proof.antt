@@ -33,4 +33,13 @@ returns-2 : tie.Need-returns-2
 returns-2 c = pair-formed _ _ _ _ (sym (c .enum-told2 .given .1) ∙ c .before .before .name-at .ensures)
 
 pub pair-formed-spec : {M : Type 1} → statement M
-pair-formed-spec = tie.close (tie.spec name-at-requires enum-told add-value-formed value-formed-requires enum-told-2 returns returns-2)
+pair-formed-spec =
+    tie.close
+    (tie.spec
+    name-at-requires
+    enum-told
+    add-value-formed
+    value-formed-requires
+    enum-told-2
+    returns
+    returns-2)

@@ -105,4 +105,18 @@ returns-4 c =
     ))
 
 pub parts-formed-spec : {M : Type 1} → statement M
-parts-formed-spec = tie.close (tie.spec read-head-requires values-formed-requires returns named-from-requires pairs-formed-requires returns-2 items-from-requires values-formed-requires-2 returns-3 entries-from-requires entries-formed-requires returns-4)
+parts-formed-spec =
+    tie.close
+    (tie.spec
+    read-head-requires
+    values-formed-requires
+    returns
+    named-from-requires
+    pairs-formed-requires
+    returns-2
+    items-from-requires
+    values-formed-requires-2
+    returns-3
+    entries-from-requires
+    entries-formed-requires
+    returns-4)

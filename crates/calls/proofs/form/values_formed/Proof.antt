@@ -61,4 +61,16 @@ returns-2 c =
     sym (c .before .loop .inv .1 ∙ ap (all (wellFormedArgument (s .area .now))) (each-none valueWidth readValue _ _ (c .loop-test .left)))
 
 pub values-formed-spec : {M : Type 1} → statement M
-values-formed-spec = tie.close (tie.spec Inv-loop μ-loop loop-holds value-formed-requires returns add-at sub-left loop-less loop-again returns-2)
+values-formed-spec =
+    tie.close
+    (tie.spec
+    Inv-loop
+    μ-loop
+    loop-holds
+    value-formed-requires
+    returns
+    add-at
+    sub-left
+    loop-less
+    loop-again
+    returns-2)

@@ -31,4 +31,13 @@ unfolding entriesFrom itemsFrom namedFrom headWidth valueWidth pairWidth
 returns c = refl
 
 pub entries-from-spec : {M : Type 1} → statement M
-entries-from-spec = tie.close (tie.spec mul-result add-result mul-result-2 add-result-2 mul-result-3 add-result-3 returns)
+entries-from-spec =
+    tie.close
+    (tie.spec
+    mul-result
+    add-result
+    mul-result-2
+    add-result-2
+    mul-result-3
+    add-result-3
+    returns)

@@ -33,4 +33,13 @@ returns c =
     rw (c .cell6 .ensures, b1 .cell5 .ensures, b2 .cell4 .ensures, b3 .cell3 .ensures, b4 .cell2 .ensures, b4 .before .cell .ensures)
 
 pub read-head-spec : {M : Type 1} → statement M
-read-head-spec = tie.close (tie.spec cell-requires cell-requires-2 cell-requires-3 cell-requires-4 cell-requires-5 cell-requires-6 returns)
+read-head-spec =
+    tie.close
+    (tie.spec
+    cell-requires
+    cell-requires-2
+    cell-requires-3
+    cell-requires-4
+    cell-requires-5
+    cell-requires-6
+    returns)

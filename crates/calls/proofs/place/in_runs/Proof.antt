@@ -47,4 +47,14 @@ unfolding inRuns
 returns-3 c = rw (le-ltb _ _ (c .before .if1 .left), le-ltb _ _ (c .if2 .left))
 
 pub in-runs-spec : {M : Type 1} → statement M
-in-runs-spec = tie.close (tie.spec mul-result add-result returns add-if2 mul-result-2 add-result-2 returns-2 returns-3)
+in-runs-spec =
+    tie.close
+    (tie.spec
+    mul-result
+    add-result
+    returns
+    add-if2
+    mul-result-2
+    add-result-2
+    returns-2
+    returns-3)

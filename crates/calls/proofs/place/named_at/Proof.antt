@@ -43,4 +43,12 @@ returns-2 c =
     ∙ sym (rw (sym (i .before .few .ensures) ∙ not-false _ (i .if1 .left), sym (n .named-from .ensures), sym (e .entries-from .ensures)))
 
 pub named-at-spec : {M : Type 1} → statement M
-named-at-spec = tie.close (tie.spec few-requires returns named-from-requires entries-from-requires in-runs-requires returns-2)
+named-at-spec =
+    tie.close
+    (tie.spec
+    few-requires
+    returns
+    named-from-requires
+    entries-from-requires
+    in-runs-requires
+    returns-2)
