@@ -45,12 +45,13 @@ use Rattle.collector.proofs.LawsNames.{anyParameter}
 -- ---- what is found is taken where 19 says so
 
 module _ (qs : List Parameter) (cells area : List ℕ) (P : List Value) (N : List Named) (sources rest : List ℕ) (count next : ℕ) (b : List ℕ)
-  (first : positionalFirst qs ≡ true) (apart : namesApart [] qs ≡ true) (upto : next ≡ min (length P) (positionalCount qs)) (r : Resolved qs cells area N sources rest count) where
+    (first : positionalFirst qs ≡ true) (apart : namesApart [] qs ≡ true) (upto : next ≡ min (length P) (positionalCount qs)) (r : Resolved qs cells area N sources rest count) where
   taken-is : (f : Finding) → findingOf f ≡ find qs b → takenBy f next sources (heldNames area cells rest count) b ≡ (namesFilled P 0 qs b || among b (textsOf N))
   taken-is (At i) e = ap₂ (λ x y. x || y) (sym filled) (source-is (getD sources i 0) ∙ source-among qs cells area apart N sources rest count r b i anyParameter (sym e))
     where
       filled : namesFilled P 0 qs b ≡ ltb i next
       filled = names-filled qs P b anyParameter first apart ∙ ap₂ isBelow (sym upto) (sym e)
+
       source-is : (n : ℕ) → not (eqb n 0) ≡ isSome (sourceValue cells n)
       source-is zero = refl
       source-is (suc n) = ap not (eqb·suc-zero n)
@@ -59,6 +60,7 @@ module _ (qs : List Parameter) (cells area : List ℕ) (P : List Value) (N : Lis
     where
       unknown-b : known qs b ≡ false
       unknown-b = known-at qs cells area b unknown (sym e)
+
       filled : namesFilled P 0 qs b ≡ false
       filled = names-filled qs P b anyParameter first apart ∙ ap (isBelow (min (length P) (positionalCount qs))) (sym e)
 
@@ -77,8 +79,8 @@ key-inside area v e k = go (eqb (v .kind) 3) refl e
         (and-right (eqb (v .kind) 6) (inside area (v .payload) && leb 0 (sizeOf (v .payload)) && leb (sizeOf (v .payload)) 64) f))
 
 module _ (spec : List ℕ) (l : ParametersSpec) (cells area : List ℕ) (list : Prepared spec l) (P : List Value) (N : List Named) (sources rest : List ℕ) (count next : ℕ)
-  (upto : next ≡ min (length P) (positionalCount (parametersIn spec (l .params)))) (r : Resolved (parametersIn spec (l .params)) cells area N sources rest count)
-  (pair : ℕ) (formed : wellFormedKey area (pairAt cells pair) ≡ true) where
+    (upto : next ≡ min (length P) (positionalCount (parametersIn spec (l .params)))) (r : Resolved (parametersIn spec (l .params)) cells area N sources rest count)
+    (pair : ℕ) (formed : wellFormedKey area (pairAt cells pair) ≡ true) where
   abbrev qs : List Parameter
   qs = parametersIn spec (l .params)
 
@@ -93,7 +95,7 @@ module _ (spec : List ℕ) (l : ParametersSpec) (cells area : List ℕ) (list : 
       ∙ go (eqb (pairAt cells pair .kind) callText)
     where
       go : (b : Bool) → enteredBy (cond b (Word (textOf (pairAt cells pair .payload))) (Number (toZ w64 (pairAt cells pair .payload)))) (wordAt spec l area cells next sources rest count)
-        ≡ cond b (wordAt spec l area cells next sources rest count (pairAt cells pair .payload)) NotText
+          ≡ cond b (wordAt spec l area cells next sources rest count (pairAt cells pair .payload)) NotText
       go true = ap (wordAt spec l area cells next sources rest count) (payload-of-halves (pairAt cells pair .payload))
       go false = refl
 
@@ -106,7 +108,7 @@ module _ (spec : List ℕ) (l : ParametersSpec) (cells area : List ℕ) (list : 
     part-text = ap (λ b. cond b (bytesAt area (pairAt cells pair .payload)) []) (key-inside area (pairAt cells pair) formed text)
 
     word-is : wordAt spec l area cells next sources rest count (pairAt cells pair .payload)
-      ≡ freeOr (namesFilled P 0 qs (bytesAt area (pairAt cells pair .payload)) || among (bytesAt area (pairAt cells pair .payload)) (textsOf N)) (pairAt cells pair .payload) found
+        ≡ freeOr (namesFilled P 0 qs (bytesAt area (pairAt cells pair .payload)) || among (bytesAt area (pairAt cells pair .payload)) (textsOf N)) (pairAt cells pair .payload) found
     unfolding wordAt
     word-is =
         ap (λ b. freeOr (takenBy (findIn spec (l .params .codes) (l .params .styles) (l .params .names) (l .params .len) b) next sources (heldNames area cells rest count) b) (pairAt cells pair .payload) (findIn spec (l .params .codes) (l .params .styles) (l .params .names) (l .params .len) b)) part-text
@@ -120,23 +122,24 @@ module _ (spec : List ℕ) (l : ParametersSpec) (cells area : List ℕ) (list : 
       pick : (b : Bool) → entryAnswer (freeOr b (pairAt cells pair .payload) found) ≡ cond b (refuse 19 (name (placeOf callArea (pairAt cells pair .payload)))) fine
       pick true = refl
       pick false = refl
+
       go : (b : Bool) → eqb (pairAt cells pair .kind) callText ≡ b
-        → entryAnswer (cond b (wordAt spec l area cells next sources rest count (pairAt cells pair .payload)) NotText) ≡ askEntry qs P N (cond b (word (textIn area (pairAt cells pair .payload))) (number (pairAt cells pair .payload)))
+          → entryAnswer (cond b (wordAt spec l area cells next sources rest count (pairAt cells pair .payload)) NotText) ≡ askEntry qs P N (cond b (word (textIn area (pairAt cells pair .payload))) (number (pairAt cells pair .payload)))
       go true e = ap entryAnswer (word-is e) ∙ pick (namesFilled P 0 qs (bytesAt area (pairAt cells pair .payload)) || among (bytesAt area (pairAt cells pair .payload)) (textsOf N))
       go false e = refl
 
   -- what holds of a free entry: its key is a text, found as `rules` finds it, and none of the names before it
   pub entry-free : (f : Finding) → enteredAt spec l area cells pair next sources rest count ≡ Free f
-    → (eqb (pairAt cells pair .kind) callText ≡ true) × (findingOf f ≡ find qs (bytesAt area (pairAt cells pair .payload))) × (among (bytesAt area (pairAt cells pair .payload)) (textsOf N) ≡ false)
+      → (eqb (pairAt cells pair .kind) callText ≡ true) × (findingOf f ≡ find qs (bytesAt area (pairAt cells pair .payload))) × (among (bytesAt area (pairAt cells pair .payload)) (textsOf N) ≡ false)
   entry-free f e = go (eqb (pairAt cells pair .kind) callText) refl (sym entered-kind ∙ e)
     where
       go : (b : Bool) → eqb (pairAt cells pair .kind) callText ≡ b → cond b (wordAt spec l area cells next sources rest count (pairAt cells pair .payload)) NotText ≡ Free f
-        → (b ≡ true) × (findingOf f ≡ find qs (bytesAt area (pairAt cells pair .payload))) × (among (bytesAt area (pairAt cells pair .payload)) (textsOf N) ≡ false)
+          → (b ≡ true) × (findingOf f ≡ find qs (bytesAt area (pairAt cells pair .payload))) × (among (bytesAt area (pairAt cells pair .payload)) (textsOf N) ≡ false)
       go true k w =
           free (namesFilled P 0 qs (bytesAt area (pairAt cells pair .payload))) (among (bytesAt area (pairAt cells pair .payload)) (textsOf N)) refl (sym (word-is k) ∙ w)
         where
           free : (x y : Bool) → y ≡ among (bytesAt area (pairAt cells pair .payload)) (textsOf N) → freeOr (x || y) (pairAt cells pair .payload) found ≡ Free f
-            → (true ≡ true) × (findingOf f ≡ find qs (bytesAt area (pairAt cells pair .payload))) × (among (bytesAt area (pairAt cells pair .payload)) (textsOf N) ≡ false)
+              → (true ≡ true) × (findingOf f ≡ find qs (bytesAt area (pairAt cells pair .payload))) × (among (bytesAt area (pairAt cells pair .payload)) (textsOf N) ≡ false)
           free true y p v = let z : _≡_ {A = ℕ} 0 1 = cc in absurd (omega arith)
           free false true p v = let z : _≡_ {A = ℕ} 0 1 = cc in absurd (omega arith)
           free false false p v = (refl, ap findingOf same ∙ found-text k, sym p)

@@ -64,17 +64,17 @@ module _ (spec : List ℕ) (l : ParametersSpec) (cells area : List ℕ) (h : Hea
 
     -- the entries from k on are entry k and those behind it
     pub asked-next : (P : List Value) → next ≡ min (length P) (positionalCount qs)
-      → askEntries qs P before (entriesIn area cells (entriesFrom h) k (h .d - k))
-      ≡ (entryAnswer (enteredAt spec l area cells pair next sources rest count) then askEntries qs P (before ++ wordOf (keyIn area (pairAt cells pair)) (namedAt area cells pair .value)) (entriesIn area cells (entriesFrom h) (k + 1) (h .d - (k + 1))))
+        → askEntries qs P before (entriesIn area cells (entriesFrom h) k (h .d - k))
+        ≡ (entryAnswer (enteredAt spec l area cells pair next sources rest count) then askEntries qs P (before ++ wordOf (keyIn area (pairAt cells pair)) (namedAt area cells pair .value)) (entriesIn area cells (entriesFrom h) (k + 1) (h .d - (k + 1))))
     unfolding entryAt entryIn readPair pairAt namedAt namedIn
     asked-next P upto =
         ap (askEntries qs P before) (listed-next (λ j. entryAt area cells (entriesFrom h + 4 * j)) k (h .d) below)
         ∙ ap (λ a. a then askEntries qs P (before ++ wordOf (keyIn area (pairAt cells pair)) (namedAt area cells pair .value)) (entriesIn area cells (entriesFrom h) (k + 1) (h .d - (k + 1))))
-          (sym (entry-answer spec l cells area (ready .list) P before sources rest count next upto r pair formed))
+        (sym (entry-answer spec l cells area (ready .list) P before sources rest count next upto r pair formed))
 
     -- a refused entry refuses the rest
     pub asked-refused : (P : List Value) → next ≡ min (length P) (positionalCount qs) → (e : Entered) → enteredAt spec l area cells pair next sources rest count ≡ e → (n : ℕ) (d : Detail) → entryAnswer e ≡ refuse n d
-      → askEntries qs P before (entriesIn area cells (entriesFrom h) k (h .d - k)) ≡ refuse n d
+        → askEntries qs P before (entriesIn area cells (entriesFrom h) k (h .d - k)) ≡ refuse n d
     asked-refused P upto e is n d refused =
         asked-next P upto
         ∙ ap (λ a. a then askEntries qs P (before ++ wordOf (keyIn area (pairAt cells pair)) (namedAt area cells pair .value)) (entriesIn area cells (entriesFrom h) (k + 1) (h .d - (k + 1)))) (ap entryAnswer is ∙ refused)
@@ -90,7 +90,7 @@ module _ (spec : List ℕ) (l : ParametersSpec) (cells area : List ℕ) (h : Hea
           ∙ ap (λ vs. writtenNames area cells h ++ vs) (sym (listed-more (λ j. namedAt area cells (entriesFrom h + 4 * j)) k))
 
       pub asked-free : (P : List Value) → next ≡ min (length P) (positionalCount qs)
-        → askEntries qs P before (entriesIn area cells (entriesFrom h) k (h .d - k)) ≡ askEntries qs P (writtenNames area cells h ++ pairsFrom area cells (entriesFrom h) (k + 1)) (entriesIn area cells (entriesFrom h) (k + 1) (h .d - (k + 1)))
+          → askEntries qs P before (entriesIn area cells (entriesFrom h) k (h .d - k)) ≡ askEntries qs P (writtenNames area cells h ++ pairsFrom area cells (entriesFrom h) (k + 1)) (entriesIn area cells (entriesFrom h) (k + 1) (h .d - (k + 1)))
       unfolding keyIn namedAt namedIn readPair pairAt
       asked-free P upto =
           asked-next P upto

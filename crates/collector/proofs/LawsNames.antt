@@ -72,6 +72,7 @@ module _ (spec : List ℕ) (l : ParametersSpec) (cells area : List ℕ) (from n 
     where
       whole : k + (n - k) ≡ n
       whole = omega arith
+
       cut : pairsFrom area cells from n ≡ pairsFrom area cells from k ++ listed (λ i. namedAt area cells (from + 4 * i)) k (n - k)
       cut = ap (pairsFrom area cells from) (sym whole) ∙ listed-split (λ i. namedAt area cells (from + 4 * i)) 0 k (n - k) ∙ ap (λ j. pairsFrom area cells from k ++ listed (λ i. namedAt area cells (from + 4 * i)) j (n - k)) (zero-add k)
 
@@ -81,12 +82,12 @@ module _ (spec : List ℕ) (l : ParametersSpec) (cells area : List ℕ) (from n 
       (foundAt spec l area cells (from + 4 * k)) pair-found
 
   pub naming-step : (sources rest : List ℕ) (count : ℕ) → Resolved (parametersIn spec (l .params)) cells area (pairsFrom area cells from k) sources rest count
-    → Resolved (parametersIn spec (l .params)) cells area (pairsFrom area cells from (k + 1)) (sourcesAfter (foundAt spec l area cells (from + 4 * k)) (from + 4 * k) sources) (restAfter (foundAt spec l area cells (from + 4 * k)) (from + 4 * k) count rest) (countAfter (foundAt spec l area cells (from + 4 * k)) count)
+      → Resolved (parametersIn spec (l .params)) cells area (pairsFrom area cells from (k + 1)) (sourcesAfter (foundAt spec l area cells (from + 4 * k)) (from + 4 * k) sources) (restAfter (foundAt spec l area cells (from + 4 * k)) (from + 4 * k) count rest) (countAfter (foundAt spec l area cells (from + 4 * k)) count)
   naming-step sources rest count r =
       subst (λ vs. Resolved (parametersIn spec (l .params)) cells area vs (sourcesAfter (foundAt spec l area cells (from + 4 * k)) (from + 4 * k) sources) (restAfter (foundAt spec l area cells (from + 4 * k)) (from + 4 * k) count rest) (countAfter (foundAt spec l area cells (from + 4 * k)) count))
       (sym (listed-more (λ i. namedAt area cells (from + 4 * i)) k))
       (entered (parametersIn spec (l .params)) cells area (naming .list .apart) (few-list spec l cells area (naming .list)) (pairsFrom area cells from k) sources rest count (from + 4 * k) r
-        (foundAt spec l area cells (from + 4 * k)) pair-found pair-fresh (omega (arith, length-listed (λ i. namedAt area cells (from + 4 * i)) 0 k, naming .pairs .few)) (naming .pairs .names-inside k below) anyParameter)
+      (foundAt spec l area cells (from + 4 * k)) pair-found pair-fresh (omega (arith, length-listed (λ i. namedAt area cells (from + 4 * i)) 0 k, naming .pairs .few)) (naming .pairs .names-inside k below) anyParameter)
 
   pub naming-room : (sources rest : List ℕ) (count : ℕ) → Resolved (parametersIn spec (l .params)) cells area (pairsFrom area cells from k) sources rest count → count < 128
   naming-room sources rest count r = omega (arith, r .in-rest, length-listed (λ i. namedAt area cells (from + 4 * i)) 0 k, naming .pairs .few)

@@ -168,7 +168,7 @@ module _ (qs : List Parameter) (cells area : List ℕ) (apart : namesApart [] qs
 
 module _ (qs : List Parameter) (cells area : List ℕ) (apart : namesApart [] qs ≡ true) (within : length qs ≤ 64) (N : List Named) (sources rest : List ℕ) (count pair : ℕ) where
   pub entered : Resolved qs cells area N sources rest count → (f : Code.Finding) → findingOf f ≡ find qs (namedAt area cells pair .name .bytes) → among (namedAt area cells pair .name .bytes) (textsOf N) ≡ false → length N < 128 → textInside area (pairAt cells pair .payload) ≡ true → (d : Parameter)
-    → Resolved qs cells area (N ++ (namedAt area cells pair ∷ [])) (sourcesAfter f pair sources) (restAfter f pair count rest) (countAfter f count)
+      → Resolved qs cells area (N ++ (namedAt area cells pair ∷ [])) (sourcesAfter f pair sources) (restAfter f pair count rest) (countAfter f count)
   entered r (code.At i) e fresh few placed d =
       resolved-found qs cells area apart N sources rest count r pair i (sym e)
       (source-free qs cells area apart N sources rest count r (namedAt area cells pair .name .bytes) i d (sym e) fresh)

@@ -7,3 +7,4 @@ pub mod LawsNames
 pub mod LawsEntries
 pub mod LawsEntry
 pub mod LawsLoop
+pub mod LawsPrepared

@@ -47,8 +47,8 @@ pub record EntriesReady (spec : List ℕ) (l : ParametersSpec) (cells area : Lis
 -- the answer is that of 18 and 19, entry by entry, and without a refusal every name of N is resolved
 pub record EntriesDone (spec : List ℕ) (l : ParametersSpec) (cells area : List ℕ) (h : Head) (next : ℕ) (sources rest : List ℕ) (r : Entries) : Type 0 where
   pub answer
-    : (P : List Value) → next ≡ min (length P) (positionalCount (parametersIn spec (l .params)))
-    → entriesAnswer r ≡ askEntries (parametersIn spec (l .params)) P (writtenNames area cells h) (entriesIn area cells (entriesFrom h) 0 (h .d))
+      : (P : List Value) → next ≡ min (length P) (positionalCount (parametersIn spec (l .params)))
+      → entriesAnswer r ≡ askEntries (parametersIn spec (l .params)) P (writtenNames area cells h) (entriesIn area cells (entriesFrom h) 0 (h .d))
   pub resolved
-    : (count : ℕ) → r ≡ All count
-    → Resolved (parametersIn spec (l .params)) cells area (writtenNames area cells h ++ pairsFrom area cells (entriesFrom h) (h .d)) sources rest count
+      : (count : ℕ) → r ≡ All count
+      → Resolved (parametersIn spec (l .params)) cells area (writtenNames area cells h ++ pairsFrom area cells (entriesFrom h) (h .d)) sources rest count

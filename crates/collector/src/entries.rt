@@ -1,5 +1,7 @@
 // The entries of a call's dictionary (01, questions 18 and 19), asked one by one before anything is written, and resolved like the
 // written names. Reworked from starlark 0.14.2, src/eval/runtime/params/spec.rs (collect_slow), Apache-2.0.
+use crate::resolve::NAMED;
+use crate::resolve::enter;
 use builder::spec::ParametersSpec;
 use calls::head::Head;
 use calls::head::PAIR;
@@ -9,8 +11,6 @@ use cells::record::pair_at;
 use cells::text::part;
 use cells::text::same;
 use cells::value::ReadKey;
-use crate::resolve::NAMED;
-use crate::resolve::enter;
 use lookup::Finding;
 use lookup::get_str;
 ghost use mathlib.Core.Path.{_≡_};
@@ -31,7 +31,17 @@ pub enum Entries {
 }
 
 // All the entries, after the written names.
-pub fn resolve_entries(list: ParametersSpec, spec: &[u8], cells: &[u64], area: &[u8], h: Head, next: usize, sources: &mut [usize; 64], rest: &mut [usize; NAMED], before: usize) -> Entries
+pub fn resolve_entries(
+    list: ParametersSpec,
+    spec: &[u8],
+    cells: &[u64],
+    area: &[u8],
+    h: Head,
+    next: usize,
+    sources: &mut [usize; 64],
+    rest: &mut [usize; NAMED],
+    before: usize,
+) -> Entries
     requires { ⌜ EntriesReady (now spec) list (now cells) (now area) (headOf h) next (now sources) (now rest) before ⌝ }
     ensures { λ r. ⌜ EntriesDone (now (spec .entry)) list (now (cells .entry)) (now (area .entry)) (headOf h) next (now (sources .exit)) (now (rest .exit)) r ⌝ }
 {
@@ -67,19 +77,49 @@ pub enum Entered {
 }
 
 // 18 and 19 of the entry at a cell.
-pub fn entry_at(list: ParametersSpec, spec: &[u8], cells: &[u64], area: &[u8], pair: usize, next: usize, sources: &[usize; 64], rest: &[usize; NAMED], count: usize) -> Entered
+pub fn entry_at(
+    list: ParametersSpec,
+    spec: &[u8],
+    cells: &[u64],
+    area: &[u8],
+    pair: usize,
+    next: usize,
+    sources: &[usize; 64],
+    rest: &[usize; NAMED],
+    count: usize,
+) -> Entered
     requires { ⌜ Held (now area) (now cells) (now rest) count ⌝ }
     ensures { λ r. ⌜ r ≡ enteredAt (now (spec .entry)) list (now (area .entry)) (now (cells .entry)) pair next (now (sources .entry)) (now (rest .entry)) count ⌝ }
 {
     match key_at(area, cells, pair) {
-        ReadKey::Word(t) => word_at(list, spec, cells, area, t.payload(), next, sources, rest, count),
+        ReadKey::Word(t) => word_at(
+            list,
+            spec,
+            cells,
+            area,
+            t.payload(),
+            next,
+            sources,
+            rest,
+            count,
+        ),
         ReadKey::Number(_) => Entered::NotText,
         ReadKey::Not => Entered::NotText,
     }
 }
 
 // 19 of an entry whose key is the text of this payload.
-fn word_at(list: ParametersSpec, spec: &[u8], cells: &[u64], area: &[u8], payload: u64, next: usize, sources: &[usize; 64], rest: &[usize; NAMED], count: usize) -> Entered
+fn word_at(
+    list: ParametersSpec,
+    spec: &[u8],
+    cells: &[u64],
+    area: &[u8],
+    payload: u64,
+    next: usize,
+    sources: &[usize; 64],
+    rest: &[usize; NAMED],
+    count: usize,
+) -> Entered
     requires { ⌜ Held (now area) (now cells) (now rest) count ⌝ }
     ensures { λ r. ⌜ r ≡ wordAt (now (spec .entry)) list (now (area .entry)) (now (cells .entry)) next (now (sources .entry)) (now (rest .entry)) count payload ⌝ }
 {
@@ -92,7 +132,16 @@ fn word_at(list: ParametersSpec, spec: &[u8], cells: &[u64], area: &[u8], payloa
 }
 
 // Is what was found taken: a slot that a value of P or an earlier name fills, or a name that the remainder has already?
-fn is_taken(found: Finding, cells: &[u64], area: &[u8], next: usize, sources: &[usize; 64], rest: &[usize; NAMED], count: usize, name: &[u8]) -> bool
+fn is_taken(
+    found: Finding,
+    cells: &[u64],
+    area: &[u8],
+    next: usize,
+    sources: &[usize; 64],
+    rest: &[usize; NAMED],
+    count: usize,
+    name: &[u8],
+) -> bool
     requires { ⌜ Held (now area) (now cells) (now rest) count × Below 64 found ⌝ }
     ensures { λ r. ⌜ r ≡ takenBy found next (now (sources .entry)) (heldNames (now (area .entry)) (now (cells .entry)) (now (rest .entry)) count) (now (name .entry)) ⌝ }
 {

@@ -55,7 +55,16 @@ pub fn enter(
 }
 
 // The written names, of which none stands twice.
-pub fn resolve_names(list: ParametersSpec, spec: &[u8], cells: &[u64], area: &[u8], from: usize, n: usize, sources: &mut [usize; 64], rest: &mut [usize; NAMED]) -> usize
+pub fn resolve_names(
+    list: ParametersSpec,
+    spec: &[u8],
+    cells: &[u64],
+    area: &[u8],
+    from: usize,
+    n: usize,
+    sources: &mut [usize; 64],
+    rest: &mut [usize; NAMED],
+) -> usize
     requires { ⌜ Naming (now spec) list (now cells) (now area) from n (now sources) (now rest) ⌝ }
     ensures { λ r. ⌜ Resolved (parametersIn (now (spec .entry)) (list .params)) (now (cells .entry)) (now (area .entry)) (pairsFrom (now (area .entry)) (now (cells .entry)) from n) (now (sources .exit)) (now (rest .exit)) r ⌝ }
 {

@@ -18,7 +18,7 @@ enum-known-found c = search needs
 
 returns : tie.Need-returns
 returns c =
-    let a = c  .before .before .before .before .before .before .before .args in
+    let a = c .before .before .before .before .before .before .before .args in
     sym (ap (λ f. takenBy f (a .next) (a .sources .now) (heldNames (a .area .now) (a .cells .now) (a .rest .now) (a .count)) (a .name .now)) (c .before .before .found .given .1) ∙ ap (λ b. b || not (eqb (getD (a .sources .now) (c .before .before .found .given .0 .0) 0) 0)) (lt-ltb (c .before .before .found .given .0 .0) (a .next) (c .if1 .taken)))
 
 mul-result : tie.Need-mul-result
@@ -35,7 +35,7 @@ in-rest-requires c κs = search needs
 
 returns-2 : tie.Need-returns-2
 returns-2 c =
-    let a = c  .before .before .before .before .before .before .before .before .args in
+    let a = c .before .before .before .before .before .before .before .before .args in
     sym (ap (λ f. takenBy f (a .next) (a .sources .now) (heldNames (a .area .now) (a .cells .now) (a .rest .now) (a .count)) (a .name .now)) (c .before .before .before .found .given .1) ∙ ap (λ b. b || not (eqb (getD (a .sources .now) (c .before .before .before .found .given .0 .0) 0) 0)) (le-ltb (c .before .before .before .found .given .0 .0) (a .next) (c .before .if1 .left)))
 
 returns-3 : tie.Need-returns-3

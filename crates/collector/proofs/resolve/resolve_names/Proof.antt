@@ -35,11 +35,12 @@ enter-requires : tie.Need-enter-requires Inv-loop μ-loop
 enter-requires c κs =
     let start = c .before .before .before .before .before .before .before .before in
     let a = start .args in
-    let at = c .before .before .before .before .loop in
-    ( omega (arith, start .pre .pairs .few, start .pre .pairs .near)
-    , naming-room (a .spec .now) (a .list) (a .cells .now) (a .area .now) (a .from) (a .n) (a .sources .now) (a .rest .now) (start .pre) (at .k) (search needs) (at .sources) (at .rest) (at .count) (at .inv .1)
-    , subst (Below 64) (sym (c .before .before .found-at .ensures))
-      (naming-below (a .spec .now) (a .list) (a .cells .now) (a .area .now) (a .from) (a .n) (a .sources .now) (a .rest .now) (start .pre) (at .k) (search needs)))
+    let at = c .before .before .before .before .loop in (
+      omega (arith, start .pre .pairs .few, start .pre .pairs .near),
+      naming-room (a .spec .now) (a .list) (a .cells .now) (a .area .now) (a .from) (a .n) (a .sources .now) (a .rest .now) (start .pre) (at .k) (search needs) (at .sources) (at .rest) (at .count) (at .inv .1),
+      subst (Below 64) (sym (c .before .before .found-at .ensures))
+          (naming-below (a .spec .now) (a .list) (a .cells .now) (a .area .now) (a .from) (a .n) (a .sources .now) (a .rest .now) (start .pre) (at .k) (search needs)),
+    )
 
 add-k : tie.Need-add-k Inv-loop μ-loop
 add-k c = search needs
@@ -51,10 +52,11 @@ loop-again : tie.Need-loop-again Inv-loop μ-loop
 loop-again c =
     let start = c .before .before .before .before .before .before .before .before .before in
     let a = start .args in
-    let at = c .before .before .before .before .before .loop in
-    ( search needs
-    , rw (c .enter .ensures .0, c .enter .ensures .1 .0, c .enter .ensures .1 .1, c .before .before .before .found-at .ensures)
-      (naming-step (a .spec .now) (a .list) (a .cells .now) (a .area .now) (a .from) (a .n) (a .sources .now) (a .rest .now) (start .pre) (at .k) (search needs) (at .sources) (at .rest) (at .count) (at .inv .1)))
+    let at = c .before .before .before .before .before .loop in (
+      search needs,
+      rw (c .enter .ensures .0, c .enter .ensures .1 .0, c .enter .ensures .1 .1, c .before .before .before .found-at .ensures)
+          (naming-step (a .spec .now) (a .list) (a .cells .now) (a .area .now) (a .from) (a .n) (a .sources .now) (a .rest .now) (start .pre) (at .k) (search needs) (at .sources) (at .rest) (at .count) (at .inv .1)),
+    )
 
 returns : tie.Need-returns Inv-loop μ-loop
 returns c =
