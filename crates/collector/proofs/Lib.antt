@@ -8,3 +8,4 @@ pub mod LawsEntries
 pub mod LawsEntry
 pub mod LawsLoop
 pub mod LawsPrepared
+pub mod LawsSlots

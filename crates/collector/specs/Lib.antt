@@ -5,3 +5,4 @@ pub mod Resolved
 pub mod Resolve
 pub mod Entries
 pub mod EntriesDone
+pub mod Slots

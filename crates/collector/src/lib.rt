@@ -6,3 +6,4 @@ pub mod detail;
 pub mod entries;
 pub mod found;
 pub mod resolve;
+pub mod slots;
