@@ -9,3 +9,4 @@ pub mod LawsEntry
 pub mod LawsLoop
 pub mod LawsPrepared
 pub mod LawsSlots
+pub mod LawsWrite

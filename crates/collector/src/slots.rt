@@ -7,12 +7,13 @@ use cells::record::pair_at;
 use cells::value::Pair;
 ghost use mathlib.Core.Path.{_≡_};
 ghost use mathlib.Core.Bool.{cond};
-ghost use Prim.Native.Nat.{_<_};
+ghost use Prim.Native.Nat.{_<_, _≤_};
 ghost use Rattle.rules.specs.Placement.{isTaken, isDefaulted};
 ghost use Rattle.rules.specs.Board.{slotValue};
 ghost use Rattle.cells.specs.Value.{pairOf};
 ghost use Rattle.calls.specs.Head.{headOf};
-ghost use Rattle.collector.specs.Slots.{slotIn, unfilledAs, slotAt};
+ghost use Rattle.collector.specs.Slots.{slotIn, unfilledAs, slotAt, slotsOf, Filling};
+ghost use lib.ListN.{length};
 
 // What a parameter's slot holds: nothing, a value of the call, the parameter's default, or a remainder's count.
 pub enum Slot {
@@ -99,4 +100,28 @@ impl Slot {
             Slot::KWargs => 0,
         }
     }
+}
+
+// How many slots hold a value of the call, and how many a default.
+pub struct Filled {
+    pub taken: usize,
+    pub defaulted: usize,
+}
+
+// The cells of the first `len` slots, from cell 0 of the board on.
+pub fn write_slots<'a>(codes: &'a [u64; 64], kinds: &'a [u64; 64], payloads: &'a [u64; 64], sources: &'a [usize; 64], cells: &'a [u64], h: Head, next: usize, len: usize, star: usize, named: usize, board: &mut [u64]) -> Filled
+    requires { ⌜ (len ≤ 64) × (128 ≤ length (now board)) ⌝ }
+    ensures { λ r. ⌜ Filling (slotsOf (now (codes .entry)) (now (kinds .entry)) (now (payloads .entry)) (now (sources .entry)) (now (cells .entry)) (headOf h) next star named len) (now (board .entry)) (now (board .exit)) r ⌝ }
+{
+    let mut taken = 0;
+    let mut defaulted = 0;
+    let mut k = 0;
+    while k < len {
+        let slot = slot_at(codes, kinds, payloads, sources, cells, h, next, k);
+        taken += slot.taken();
+        defaulted += slot.defaulted();
+        put(board, 2 * k, slot.pair(star, named));
+        k += 1;
+    }
+    Filled { taken, defaulted }
 }
