@@ -8,9 +8,9 @@ use native.Mathlib.Omega.{arith}
 use lib.Dec.{eqb}
 use lib.ListN.{length, drop, length-append}
 use Rattle.rules.specs.Text.{bytesAt, inside, textIn, among}
-use Rattle.rules.specs.Value.{Value, callText, readValue, wellFormedKey}
+use Rattle.rules.specs.Value.{Value, callText, valueWidth, readValue, wellFormedKey}
 use Rattle.rules.specs.Answer.{Answer, fine, refuse, _then_, Detail}
-use Rattle.rules.specs.CallRecord.{Head, Named, Entry, Key, word, number, wordOf, keyIn, entryIn, namedIn, readPair}
+use Rattle.rules.specs.CallRecord.{Head, headWidth, pairWidth, Named, Entry, Key, word, number, wordOf, keyIn, entryIn, namedIn, readPair}
 use Rattle.rules.specs.Parameters.{Parameter, positionalCount}
 use Rattle.rules.specs.Lookup.{find}
 use Rattle.rules.specs.Binding.{textsOf, askEntry, askEntries}
@@ -19,7 +19,7 @@ use Rattle.builder.specs.Listed.{listed}
 use Rattle.builder.specs.Params.{parametersIn}
 use Rattle.builder.specs.declared.spec.ParametersSpec.{ParametersSpec}
 use Rattle.builder.proofs.LawsListed.{length-listed, listed-next, listed-end, listed-more}
-use Rattle.calls.specs.Head.{namedFrom, entriesFrom}
+use Rattle.calls.specs.Head.{Few, namedFrom, itemsFrom, entriesFrom}
 use Rattle.lookup.specs.declared.Finding.{Finding}
 use Rattle.lookup.specs.Lookup.{findingOf}
 use Rattle.collector.specs.Resolved.{namedAt, Resolved}
@@ -34,7 +34,12 @@ use Rattle.collector.proofs.LawsEntry.{key-inside, entry-answer, entry-
 
 -- the remainder's pairs of names that are resolved are held
 pub resolved-held : (qs : List Parameter) (cells area : List ℕ) (N : List Named) (sources rest : List ℕ) (count : ℕ) → Resolved qs cells area N sources rest count → length N ≤ 128 → Held area cells rest count
-resolved-held qs cells area N sources rest count r few = record { few = omega (arith, r .in-rest); pairs = r .pairs; names-inside = r .rest-inside }
+resolved-held qs cells area N sources rest count r few = record { few = omega (arith, r .in-rest); pairs = r .pairs; named = r .rest-named }
+
+-- where the entries begin is near
+pub entries-near : (h : Head) → Few 64 h → entriesFrom h ≤ 1024
+unfolding entriesFrom itemsFrom namedFrom headWidth valueWidth pairWidth
+entries-near h few = omega (arith, few .few-p, few .few-n, few .few-s)
 
 module _ (spec : List ℕ) (l : ParametersSpec) (cells area : List ℕ) (h : Head) (next : ℕ) (sources₀ rest₀ : List ℕ) (count₀ : ℕ) (ready : EntriesReady spec l cells area h next sources₀ rest₀ count₀) (k : ℕ) where
   abbrev qs : List Parameter
@@ -112,4 +117,4 @@ module _ (spec : List ℕ) (l : ParametersSpec) (cells area : List ℕ) (h : Hea
       pub resolved-free : Resolved qs cells area (writtenNames area cells h ++ pairsFrom area cells (entriesFrom h) (k + 1)) (sourcesAfter f pair sources) (restAfter f pair count rest) (countAfter f count)
       resolved-free =
           subst (λ vs. Resolved qs cells area vs (sourcesAfter f pair sources) (restAfter f pair count rest) (countAfter f count)) one-more
-          (entered qs cells area (ready .list .apart) (few-list spec l cells area (ready .list)) before sources rest count pair r f found-name fresh-name (before-room below) (key-inside area (pairAt cells pair) formed (facts .0)) anyParameter)
+          (entered qs cells area (ready .list .apart) (few-list spec l cells area (ready .list)) before sources rest count pair r f found-name fresh-name (before-room below) (record { near = omega (arith, entries-near h (ready .few), ready .few .few-d); text = facts .0; inside = key-inside area (pairAt cells pair) formed (facts .0) }) anyParameter)

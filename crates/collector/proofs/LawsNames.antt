@@ -62,7 +62,7 @@ module _ (spec : List ℕ) (l : ParametersSpec) (cells area : List ℕ) (list : 
 
 module _ (spec : List ℕ) (l : ParametersSpec) (cells area : List ℕ) (from n : ℕ) (sources₀ rest₀ : List ℕ) (naming : Naming spec l cells area from n sources₀ rest₀) (k : ℕ) (below : k < n) where
   pair-found : findingOf (foundAt spec l area cells (from + 4 * k)) ≡ find (parametersIn spec (l .params)) (namedAt area cells (from + 4 * k) .name .bytes)
-  pair-found = found-is spec l cells area (naming .list) (from + 4 * k) (naming .pairs .names-inside k below)
+  pair-found = found-is spec l cells area (naming .list) (from + 4 * k) (naming .pairs .named k below .inside)
 
   pair-fresh : among (namedAt area cells (from + 4 * k) .name .bytes) (textsOf (pairsFrom area cells from k)) ≡ false
   unfolding textsOf
@@ -87,7 +87,7 @@ module _ (spec : List ℕ) (l : ParametersSpec) (cells area : List ℕ) (from n 
       subst (λ vs. Resolved (parametersIn spec (l .params)) cells area vs (sourcesAfter (foundAt spec l area cells (from + 4 * k)) (from + 4 * k) sources) (restAfter (foundAt spec l area cells (from + 4 * k)) (from + 4 * k) count rest) (countAfter (foundAt spec l area cells (from + 4 * k)) count))
       (sym (listed-more (λ i. namedAt area cells (from + 4 * i)) k))
       (entered (parametersIn spec (l .params)) cells area (naming .list .apart) (few-list spec l cells area (naming .list)) (pairsFrom area cells from k) sources rest count (from + 4 * k) r
-      (foundAt spec l area cells (from + 4 * k)) pair-found pair-fresh (omega (arith, length-listed (λ i. namedAt area cells (from + 4 * i)) 0 k, naming .pairs .few)) (naming .pairs .names-inside k below) anyParameter)
+      (foundAt spec l area cells (from + 4 * k)) pair-found pair-fresh (omega (arith, length-listed (λ i. namedAt area cells (from + 4 * i)) 0 k, naming .pairs .few)) (naming .pairs .named k below) anyParameter)
 
   pub naming-room : (sources rest : List ℕ) (count : ℕ) → Resolved (parametersIn spec (l .params)) cells area (pairsFrom area cells from k) sources rest count → count < 128
   naming-room sources rest count r = omega (arith, r .in-rest, length-listed (λ i. namedAt area cells (from + 4 * i)) 0 k, naming .pairs .few)

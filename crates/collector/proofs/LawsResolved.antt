@@ -21,15 +21,14 @@ use Rattle.rules.specs.Lookup.{names, known, Finding, at, unknown, findFrom, fi
 use Rattle.rules.specs.Placement.{partner, namedRemainder}
 use Rattle.rules.proofs.LawsListing.{map-append}
 use Rattle.rules.specs.Passed.{namesApart}
-use Rattle.rules.specs.Text.{among, inside as textInside}
-use Rattle.cells.specs.Record.{pairAt}
+use Rattle.rules.specs.Text.{among}
 use Rattle.rules.specs.Binding.{textsOf}
 use Rattle.rules.proofs.LawsPlacement.{isSome, partner-some}
 use Rattle.rules.proofs.LawsFound.{isAt, isFound, known-found, names-at, orElse, partner-snoc, keep-snoc, among-named}
 use Rattle.lookup.specs.declared.Finding as Code
 use Rattle.lookup.specs.declared.Finding.the-variants as code
 use Rattle.lookup.specs.Lookup.{findingOf}
-use Rattle.collector.specs.Resolved.{sourceValue, namedAt, Resolved}
+use Rattle.collector.specs.Resolved.{sourceValue, namedAt, NamedPair, Resolved}
 use Rattle.collector.specs.Resolve.{Below, sourcesAfter, restAfter, countAfter}
 
 -- a source that is not 0
@@ -54,7 +53,7 @@ module _ (qs : List Parameter) (cells area : List ℕ) where
   pub resolved-none : (sources rest : List ℕ) → length sources ≡ 64 → length rest ≡ 128 → ((k : ℕ) → k < length qs → getD sources k 0 ≡ 0) → Resolved qs cells area [] sources rest 0
   unfolding namedRemainder
   resolved-none sources rest slots pairs zeros =
-      record { sources-are = λ k d h. sym (ap (sourceValue cells) (zeros k h)); rest-is = refl; in-rest = omega arith; rest-inside = λ j h. absurd (omega arith); slots = slots; pairs = pairs }
+      record { sources-are = λ k d h. sym (ap (sourceValue cells) (zeros k h)); rest-is = refl; in-rest = omega arith; rest-named = λ j h. absurd (omega arith); slots = slots; pairs = pairs }
 
   -- the parameter at an index is named by a pair exactly where the pair's name is found there
   pub named-at : namesApart [] qs ≡ true → (b : List ℕ) (f : Finding) → find qs b ≡ f → (k : ℕ) (d : Parameter) → k < length qs → names b (getD qs k d) ≡ isAt k f
@@ -79,7 +78,7 @@ module _ (qs : List Parameter) (cells area : List ℕ) where
               ∙ append-nil (keep (λ v. not (known qs (v .name .bytes))) N)
               ∙ r .rest-is;
           in-rest = simp length-append (omega (arith, r .in-rest));
-          rest-inside = r .rest-inside;
+          rest-named = r .rest-named;
           slots = simp length-set (r .slots);
           pairs = r .pairs;
         }
@@ -104,10 +103,10 @@ module _ (qs : List Parameter) (cells area : List ℕ) where
                 ∙ ap (sourceValue cells) (sym (getD-set-other sources i k (pair + 2) 0 (λ (p : k ≡ i). eqb-false i k e (sym p))))
 
     -- a name that is not found
-    pub resolved-unknown : find qs (namedAt area cells pair .name .bytes) ≡ unknown → count < length rest → textInside area (pairAt cells pair .payload) ≡ true
+    pub resolved-unknown : find qs (namedAt area cells pair .name .bytes) ≡ unknown → count < length rest → NamedPair area cells pair
         → Resolved qs cells area (N ++ (namedAt area cells pair ∷ [])) sources (set rest count pair) (count + 1)
     unfolding namedRemainder
-    resolved-unknown found inside name-inside =
+    resolved-unknown found inside named =
         record {
           sources-are = λ k d h.
               partner-snoc (getD qs k d) N (namedAt area cells pair)
@@ -121,18 +120,14 @@ module _ (qs : List Parameter) (cells area : List ℕ) where
               ∙ sym (map-append (namedAt area cells) (take count rest) (pair ∷ []))
               ∙ ap (map (namedAt area cells)) (sym (take-suc-set rest count pair inside) ∙ ap (λ n. take n (set rest count pair)) (sym (add-one count)));
           in-rest = simp length-append (omega (arith, r .in-rest));
-          rest-inside = λ j h. place j h (eqb j count) refl;
+          rest-named = λ j h. place j h (eqb j count) refl;
           slots = r .slots;
           pairs = simp length-set (r .pairs);
         }
       where
-        place : (j : ℕ) → j < count + 1 → (b : Bool) → eqb j count ≡ b → textInside area (pairAt cells (getD (set rest count pair) j 0) .payload) ≡ true
-        place j h true e =
-            ap (λ n. textInside area (pairAt cells n .payload)) (ap (λ n. getD (set rest count pair) n 0) (eqb-true j count e) ∙ getD-set-same rest count pair 0 inside)
-            ∙ name-inside
-        place j h false e =
-            ap (λ n. textInside area (pairAt cells n .payload)) (getD-set-other rest count j pair 0 (eqb-false j count e))
-            ∙ r .rest-inside j (omega (arith, eqb-false j count e))
+        place : (j : ℕ) → j < count + 1 → (b : Bool) → eqb j count ≡ b → NamedPair area cells (getD (set rest count pair) j 0)
+        place j h true e = subst (NamedPair area cells) (sym (ap (λ n. getD (set rest count pair) n 0) (eqb-true j count e) ∙ getD-set-same rest count pair 0 inside)) named
+        place j h false e = subst (NamedPair area cells) (sym (getD-set-other rest count j pair 0 (eqb-false j count e))) (r .rest-named j (omega (arith, eqb-false j count e)))
 
 -- ---- a name that is found names a parameter of the list
 
@@ -167,7 +162,7 @@ module _ (qs : List Parameter) (cells area : List ℕ) (apart : namesApart [] qs
 -- ---- one more pair, by what the code finds
 
 module _ (qs : List Parameter) (cells area : List ℕ) (apart : namesApart [] qs ≡ true) (within : length qs ≤ 64) (N : List Named) (sources rest : List ℕ) (count pair : ℕ) where
-  pub entered : Resolved qs cells area N sources rest count → (f : Code.Finding) → findingOf f ≡ find qs (namedAt area cells pair .name .bytes) → among (namedAt area cells pair .name .bytes) (textsOf N) ≡ false → length N < 128 → textInside area (pairAt cells pair .payload) ≡ true → (d : Parameter)
+  pub entered : Resolved qs cells area N sources rest count → (f : Code.Finding) → findingOf f ≡ find qs (namedAt area cells pair .name .bytes) → among (namedAt area cells pair .name .bytes) (textsOf N) ≡ false → length N < 128 → NamedPair area cells pair → (d : Parameter)
       → Resolved qs cells area (N ++ (namedAt area cells pair ∷ [])) (sourcesAfter f pair sources) (restAfter f pair count rest) (countAfter f count)
   entered r (code.At i) e fresh few placed d =
       resolved-found qs cells area apart N sources rest count r pair i (sym e)

@@ -31,7 +31,7 @@ writeEach-append write (x ∷ xs) ys = ap (λ r. write x ++ r) (writeEach-append
 
 -- one more thing behind those that are written
 pub written-more : {X : Type 0} (width : ℕ) (write : X → List ℕ) → ((x : X) → length (write x) ≡ width) → (f : ℕ → X) (from k at : ℕ) (before : List ℕ) → at + width * k + width ≤ length before
-  → stored (stored before at (writeEach write (listed f from k))) (at + width * k) (write (f (from + k))) ≡ stored before at (writeEach write (listed f from (k + 1)))
+    → stored (stored before at (writeEach write (listed f from k))) (at + width * k) (write (f (from + k))) ≡ stored before at (writeEach write (listed f from (k + 1)))
 written-more width write wide f from k at before fits =
     stored-stored before (writeEach write (listed f from k)) (write (f (from + k))) at (at + width * k)
     (ap (λ n. at + n) (sym (length-writeEach width (λ cells. f 0) write wide (listed f from k) ∙ ap (λ n. width * n) (length-listed f from k))))
@@ -40,6 +40,7 @@ written-more width write wide f from k at before fits =
   where
     room : length (write (f (from + k))) ≡ width → at + width * k + length (write (f (from + k))) ≤ length before
     room e = omega arith
+
     more : listed f from (k + 1) ≡ listed f from k ++ (f (from + k) ∷ [])
     more = ap (listed f from) (add-one k) ∙ listed-snoc f from k
 
@@ -72,8 +73,8 @@ pub filling-none : (before : List ℕ) → Filling [] before before (record { ta
 filling-none before = record { board = sym (stored-none before 0 (omega arith)); taken = refl; defaulted = refl }
 
 pub filling-more : (f : ℕ → rules.Slot) (k : ℕ) (before now : List ℕ) (taken defaulted t d : ℕ) → Filling (listed f 0 k) before now (record { taken = taken; defaulted = defaulted }) → 2 * k + 2 ≤ length before
-  → t ≡ cond (rules.isTaken (f k)) 1 0 → d ≡ cond (rules.isDefaulted (f k)) 1 0
-  → Filling (listed f 0 (k + 1)) before (stored now (2 * k) (valueCells (slotValue (f k)))) (record { taken = taken + t; defaulted = defaulted + d })
+    → t ≡ cond (rules.isTaken (f k)) 1 0 → d ≡ cond (rules.isDefaulted (f k)) 1 0
+    → Filling (listed f 0 (k + 1)) before (stored now (2 * k) (valueCells (slotValue (f k)))) (record { taken = taken + t; defaulted = defaulted + d })
 unfolding slotCells
 filling-more f k before now taken defaulted t d so fits et ed =
     record {
@@ -82,11 +83,12 @@ filling-more f k before now taken defaulted t d so fits et ed =
           ∙ ap₂ (λ n j. stored (stored before 0 (writeEach slotCells (listed f 0 k))) n (slotCells (f j))) (sym (zero-add (2 * k))) (sym (zero-add k))
           ∙ written-more 2 slotCells slots-wide f 0 k 0 before (omega arith);
       taken = ap₂ (λ a b. a + b) (so .taken) et ∙ counted (rules.isTaken (f k)) (tally rules.isTaken (listed f 0 k)) ∙ sym (ap (tally rules.isTaken) (listed-more f k) ∙ tally-snoc rules.isTaken (listed f 0 k) (f k));
-      defaulted = ap₂ (λ a b. a + b) (so .defaulted) ed ∙ counted (rules.isDefaulted (f k)) (tally rules.isDefaulted (listed f 0 k)) ∙ sym (ap (tally rules.isDefaulted) (listed-more f k) ∙ tally-snoc rules.isDefaulted (listed f 0 k) (f k))
+      defaulted = ap₂ (λ a b. a + b) (so .defaulted) ed ∙ counted (rules.isDefaulted (f k)) (tally rules.isDefaulted (listed f 0 k)) ∙ sym (ap (tally rules.isDefaulted) (listed-more f k) ∙ tally-snoc rules.isDefaulted (listed f 0 k) (f k));
     }
   where
     slots-wide : (s : rules.Slot) → length (slotCells s) ≡ 2
     slots-wide s = valueCells-two (slotValue s)
+
     counted : (b : Bool) (n : ℕ) → n + cond b 1 0 ≡ cond b (n + 1) n
     counted true n = refl
     counted false n = omega arith

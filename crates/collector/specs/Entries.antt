@@ -5,7 +5,7 @@ use mathlib.Core.List.{List, map}
 use Prim.Native.Nat.{ℕ, _≤_, _<_}
 use lib.Dec.{ltb, eqb}
 use lib.ListN.{length, take, getD}
-use Rattle.rules.specs.Text.{among, payloadOf, inside}
+use Rattle.rules.specs.Text.{among, payloadOf}
 use Rattle.rules.specs.Answer.{Answer, fine, refuse, none, name, callArea}
 use Rattle.rules.specs.CallRecord.{Named}
 use Rattle.rules.specs.Binding.{textsOf}
@@ -18,15 +18,15 @@ use Rattle.lookup.specs.declared.Finding.{Finding}
 use Rattle.lookup.specs.declared.Finding.the-variants.{At, Unknown}
 use Rattle.lookup.specs.Lookup.{findIn}
 use Rattle.collector.specs.Answer.{placeOf}
-use Rattle.collector.specs.Resolved.{namedAt}
+use Rattle.collector.specs.Resolved.{namedAt, NamedPair}
 use Rattle.collector.specs.declared.entries.Entered.{Entered}
 use Rattle.collector.specs.declared.entries.Entered.the-variants.{Free, NotText, Repeated}
 
--- the remainder's pairs, whose names are known to lie inside the area
+-- the remainder's pairs, whose names are known to be texts inside the area
 pub record Held (area cells rest : List ℕ) (count : ℕ) : Type 0 where
   pub few : count ≤ 128
   pub pairs : length rest ≡ 128
-  pub names-inside : (j : ℕ) → j < count → inside area (pairAt cells (getD rest j 0) .payload) ≡ true
+  pub named : (j : ℕ) → j < count → NamedPair area cells (getD rest j 0)
 
 abbrev pub heldNames : List ℕ → List ℕ → List ℕ → ℕ → List Named
 heldNames area cells rest count = map (namedAt area cells) (take count rest)

@@ -5,7 +5,7 @@ use mathlib.Core.List.{List, []}
 use Prim.Native.Nat.{ℕ, _+_, _*_, _<_, _≤_}
 use lib.ListN.{length, set}
 use Rattle.rules.specs.Listing.{all}
-use Rattle.rules.specs.Text.{inside as textInside, differ}
+use Rattle.rules.specs.Text.{differ}
 use Rattle.rules.specs.CallRecord.{Named}
 use Rattle.rules.specs.Binding.{textsOf}
 use Rattle.rules.specs.Passed.{positionalFirst, namesApart, nameInside}
@@ -18,7 +18,7 @@ use Rattle.builder.specs.declared.spec.ParametersSpec.{ParametersSpec}
 use Rattle.lookup.specs.declared.Finding.{Finding}
 use Rattle.lookup.specs.declared.Finding.the-variants.{At, Unknown}
 use Rattle.lookup.specs.Lookup.{findIn}
-use Rattle.collector.specs.Resolved.{namedAt, Resolved}
+use Rattle.collector.specs.Resolved.{namedAt, NamedPair, Resolved}
 
 unfoldable pub foundAt : List ℕ → ParametersSpec → List ℕ → List ℕ → ℕ → Finding
 foundAt spec l area cells pair =
@@ -52,11 +52,11 @@ pub record Prepared (area : List ℕ) (l : ParametersSpec) : Type 0 where
 abbrev pub pairsFrom : List ℕ → List ℕ → ℕ → ℕ → List Named
 pairsFrom area cells from count = listed (λ k. namedAt area cells (from + 4 * k)) 0 count
 
--- pairs whose names are known to lie inside the area
+-- pairs whose names are known to be texts inside the area
 pub record Pairs (area cells : List ℕ) (from count : ℕ) : Type 0 where
   pub few : count ≤ 64
   pub near : from ≤ 1024
-  pub names-inside : (k : ℕ) → k < count → textInside area (pairAt cells (from + 4 * k) .payload) ≡ true
+  pub named : (k : ℕ) → k < count → NamedPair area cells (from + 4 * k)
 
 -- written pairs against a prepared list, with nothing resolved yet
 pub record Naming (spec : List ℕ) (l : ParametersSpec) (cells area : List ℕ) (from count : ℕ) (sources rest : List ℕ) : Type 0 where

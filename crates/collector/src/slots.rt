@@ -109,7 +109,19 @@ pub struct Filled {
 }
 
 // The cells of the first `len` slots, from cell 0 of the board on.
-pub fn write_slots<'a>(codes: &'a [u64; 64], kinds: &'a [u64; 64], payloads: &'a [u64; 64], sources: &'a [usize; 64], cells: &'a [u64], h: Head, next: usize, len: usize, star: usize, named: usize, board: &mut [u64]) -> Filled
+pub fn write_slots<'a>(
+    codes: &'a [u64; 64],
+    kinds: &'a [u64; 64],
+    payloads: &'a [u64; 64],
+    sources: &'a [usize; 64],
+    cells: &'a [u64],
+    h: Head,
+    next: usize,
+    len: usize,
+    star: usize,
+    named: usize,
+    board: &mut [u64],
+) -> Filled
     requires { ⌜ (len ≤ 64) × (128 ≤ length (now board)) ⌝ }
     ensures { λ r. ⌜ Filling (slotsOf (now (codes .entry)) (now (kinds .entry)) (now (payloads .entry)) (now (sources .entry)) (now (cells .entry)) (headOf h) next star named len) (now (board .entry)) (now (board .exit)) r ⌝ }
 {

@@ -4,14 +4,13 @@ use Prim.Native.Nat.{ℕ, _+_, _*_, _-_, min, _≤_}
 use native.Mathlib.Nat.{sub-zero}
 use native.Mathlib.Omega.{arith}
 use lib.ListN.{length}
-use Rattle.rules.specs.Value.{Value, valueWidth}
+use Rattle.rules.specs.Value.{Value}
 use Rattle.rules.specs.Answer.{refuse, Detail, none, name, callArea}
-use Rattle.rules.specs.CallRecord.{headWidth, pairWidth}
 use Rattle.rules.specs.Parameters.{positionalCount}
 use Rattle.rules.specs.Binding.{askEntries}
 use Rattle.builder.specs.Params.{parametersIn}
 use Rattle.builder.proofs.LawsListed.{listed-end}
-use Rattle.calls.specs.Head.{headOf, namedFrom, itemsFrom, entriesFrom}
+use Rattle.calls.specs.Head.{headOf, entriesFrom}
 use Rattle.collector.specs.Resolved.{Resolved}
 use Rattle.collector.specs.Resolve.{Below, pairsFrom}
 use Rattle.collector.specs.EntriesDone.{writtenNames, entryAt, entriesIn}
@@ -19,7 +18,7 @@ use Rattle.collector.specs.Answer.{placeOf}
 use Rattle.collector.specs.Entries.{enteredAt, entryAnswer}
 use Rattle.collector.specs.declared.entries.Entered.{Entered}
 use Rattle.collector.specs.declared.entries.Entered.the-variants.{NotText, Repeated}
-use Rattle.collector.proofs.LawsLoop.{resolved-held, before-few, before-room, asked-refused, asked-free, below-free, resolved-free}
+use Rattle.collector.proofs.LawsLoop.{entries-near, resolved-held, before-few, before-room, asked-refused, asked-free, below-free, resolved-free}
 use borrow.Author.Needs.{needs}
 use Rattle.collector.proofs.entries.resolve_entries.Statement.{statement}
 use Rattle.collector.proofs.entries.resolve_entries.Tie as tie
@@ -57,10 +56,7 @@ mul-pair c = search needs
 
 -- where the entries begin is near
 from-near : (c : tie.After-entries-from Inv-loop μ-loop) → c .entries-from .result ≤ 1024
-unfolding entriesFrom itemsFrom namedFrom headWidth valueWidth pairWidth
-from-near c =
-    let few = c .before .before .before .before .pre .few in
-    omega (arith, c .entries-from .ensures, few .few-p, few .few-n, few .few-s)
+from-near c = omega (arith, c .entries-from .ensures, entries-near (headOf (c .before .before .before .before .args .h)) (c .before .before .before .before .pre .few))
 
 -- what was answered for entry k
 entered-is : (c : tie.After-entry-at Inv-loop μ-loop)

@@ -69,16 +69,17 @@ loop-again c =
     let at = c .before .before .before .before .before .before .before .before .before .loop in
     let slot = c .before .before .before .before .before .before .before .slot-at .result in
     let is : slotIn slot (a .star) (a .named) ≡ slotAt (a .codes .now) (a .kinds .now) (a .payloads .now) (a .sources .now) (a .cells .now) (headOf (a .h)) (a .next) (at .k) (a .star) (a .named) =
-            ap (λ g. g (a .star) (a .named)) (c .before .before .before .before .before .before .before .slot-at .ensures) in
+    ap (λ g. g (a .star) (a .named)) (c .before .before .before .before .before .before .before .slot-at .ensures) in
     let t = c .before .before .before .before .before .before .taken .ensures ∙ ap (λ b. cond b 1 0) (slot-taken slot (a .star) (a .named) ∙ ap isTaken is) in
-    let d = c .before .before .before .before .before .defaulted .ensures ∙ ap (λ b. cond b 1 0) (slot-defaulted slot (a .star) (a .named) ∙ ap isDefaulted is) in
-    ( search needs
-    , omega (arith, c .before .before .before .before .before .before .taken .ensures, at-most-one (isTaken (slotIn slot 0 0)))
-    , omega (arith, c .before .before .before .before .before .defaulted .ensures, at-most-one (isDefaulted (slotIn slot 0 0)))
-    , c .before .before .put .kept .0 ∙ at .inv .3
-    , rw (c .before .before .put .ensures, c .before .before .before .pair .ensures, is)
-      (filling-more (λ k. slotAt (a .codes .now) (a .kinds .now) (a .payloads .now) (a .sources .now) (a .cells .now) (headOf (a .h)) (a .next) k (a .star) (a .named)) (at .k) (a .board .now) (at .board) (at .taken) (at .defaulted)
-        (c .before .before .before .before .before .before .taken .result) (c .before .before .before .before .before .defaulted .result) (at .inv .4) (omega (arith, start .pre .0, start .pre .1)) t d))
+    let d = c .before .before .before .before .before .defaulted .ensures ∙ ap (λ b. cond b 1 0) (slot-defaulted slot (a .star) (a .named) ∙ ap isDefaulted is) in (
+      search needs,
+      omega (arith, c .before .before .before .before .before .before .taken .ensures, at-most-one (isTaken (slotIn slot 0 0))),
+      omega (arith, c .before .before .before .before .before .defaulted .ensures, at-most-one (isDefaulted (slotIn slot 0 0))),
+      c .before .before .put .kept .0 ∙ at .inv .3,
+      rw (c .before .before .put .ensures, c .before .before .before .pair .ensures, is)
+          (filling-more (λ k. slotAt (a .codes .now) (a .kinds .now) (a .payloads .now) (a .sources .now) (a .cells .now) (headOf (a .h)) (a .next) k (a .star) (a .named)) (at .k) (a .board .now) (at .board) (at .taken) (at .defaulted)
+          (c .before .before .before .before .before .before .taken .result) (c .before .before .before .before .before .defaulted .result) (at .inv .4) (omega (arith, start .pre .0, start .pre .1)) t d),
+    )
 
 same-length : tie.Need-same-length Inv-loop μ-loop
 same-length c = c .before .loop .inv .3
