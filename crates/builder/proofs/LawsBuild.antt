@@ -1,29 +1,26 @@
 -- Laws of building a list: what the steps have left to ask and to add from step i on, at the start, after a step that is taken, at one that
 -- is refused and at the end; then questions 1 to 8 one after the other. Assumes nothing.
 use mathlib.Core.Path.{_≡_, refl, sym, ap, _∙_}
-use mathlib.Core.Bool.{Bool, true, false, not}
-use mathlib.Core.List.{List, [], _∷_, _++_, append-assoc, append-nil}
+use mathlib.Core.Bool.{true, false}
+use mathlib.Core.List.{List, [], _++_, append-assoc, append-nil}
 use Prim.Native.Nat.{ℕ, _+_, _-_, _<_, _≤_}
 use native.Mathlib.Nat.{sub-zero}
-use lib.Dec.{leb}
-use borrow.Author.Tests.{not-true, not-false}
-use Rattle.rules.specs.Answer.{Answer as RuleAnswer, fine, refuse, ask, _then_, none as noDetail}
+use Rattle.rules.specs.Answer.{fine, refuse, _then_, none as noDetail}
 use Rattle.rules.specs.ParameterRecord.{Step as RecordStep, stepCount, readParameters}
-use Rattle.rules.specs.Parameters.{posOnly, act, nextStyle, added, addedFrom, parametersOf, positionalOnlyCount, positionalCount, argsIndex, kwargsIndex}
-use Rattle.rules.specs.ParameterQuestions.{wholeSteps, codesKnown, namesInside, defaultsRight, askStep, askSteps, countsAgree, listOf, askParameters}
+use Rattle.rules.specs.Parameters.{posOnly, act, nextStyle, added, addedFrom, parametersOf}
+use Rattle.rules.specs.ParameterQuestions.{wholeSteps, codesKnown, namesInside, defaultsRight, askSteps, countsAgree, listOf, askParameters}
 use Rattle.cells.specs.declared.answer.Answer.the-variants.{Fine, Refused}
 use Rattle.builder.specs.declared.spec.ParametersSpecBuilder.{ParametersSpecBuilder}
 use Rattle.builder.specs.declared.spec.Stepped.{Stepped}
 use Rattle.builder.specs.declared.spec.Finished.{Finished}
 use Rattle.builder.specs.Listed.{listed}
-use Rattle.builder.specs.Params.{styleOf, parametersIn}
 use Rattle.builder.specs.Record.{stepAt}
-use Rattle.builder.specs.Spec.{Built, Empty, Stepping, Finishing, NoList, listOfBuilder, indexOf, finished}
 use Rattle.cells.specs.Answer.{answerOf}
+use Rattle.builder.specs.Spec.{Built, Empty, Stepping, Finishing, NoList, styleIn, listIn, finished}
 use Rattle.builder.specs.Build.{Taking, IsList, Building}
 use Rattle.builder.proofs.LawsListed.{listed-next, listed-end}
 use Rattle.builder.proofs.LawsRecord.{steps-listed}
-use Rattle.builder.proofs.LawsSpec.{never-fine, never-refused}
+use Rattle.builder.proofs.LawsSpec.{never-fine}
 
 -- ---- the steps, one after the other
 
@@ -31,10 +28,10 @@ use Rattle.builder.proofs.LawsSpec.{never-fine, never-refused}
 pub record Left (cells area : List ℕ) (m : ℕ) (b : ParametersSpecBuilder) (i : ℕ) : Type 0 where
   pub asks
       : askSteps 64 area posOnly [] (readParameters cells .steps)
-      ≡ askSteps 64 area (styleOf (b .«current_style»)) (listOfBuilder area b) (listed (stepAt cells) i (m - i))
+      ≡ askSteps 64 area (styleIn b) (listIn area b) (listed (stepAt cells) i (m - i))
   pub list
       : listOf cells area
-      ≡ listOfBuilder area b ++ addedFrom area (styleOf (b .«current_style»)) (listed (stepAt cells) i (m - i))
+      ≡ listIn area b ++ addedFrom area (styleIn b) (listed (stepAt cells) i (m - i))
   pub built : Built area b
 
 module _ (cells area : List ℕ) (m : ℕ) where
@@ -52,7 +49,7 @@ module _ (cells area : List ℕ) (m : ℕ) where
     left-end h =
         record {
           answer = sym (left .asks ∙ rw (listed-end (stepAt cells) i m h));
-          list = λ e. sym (left .list ∙ rw (listed-end (stepAt cells) i m h) (append-nil (listOfBuilder area b)));
+          list = λ e. sym (left .list ∙ rw (listed-end (stepAt cells) i m h) (append-nil (listIn area b)));
           built = left .built;
         }
 
@@ -61,8 +58,8 @@ module _ (cells area : List ℕ) (m : ℕ) where
       asks-next
           : askSteps 64 area posOnly [] (readParameters cells .steps)
           ≡ answerOf (r .answer)
-          then askSteps 64 area (nextStyle (styleOf (b .«current_style»)) (act t))
-          (listOfBuilder area b ++ added area (styleOf (b .«current_style»)) (act t) (t .name))
+          then askSteps 64 area (nextStyle (styleIn b) (act t))
+          (listIn area b ++ added area (styleIn b) (act t) (t .name))
           (listed (stepAt cells) (i + 1) (m - (i + 1)))
       asks-next = left .asks ∙ rw (listed-next (stepAt cells) i m h, ← e, ← s .answer)
 
@@ -140,7 +137,7 @@ module _ (cells area : List ℕ) where
                 refused = end .refused;
               }
             where
-              is-list : IsList area (finished (t .builder)) (listOfBuilder area (t .builder))
+              is-list : IsList area (finished (t .builder)) (listIn area (t .builder))
               is-list =
                   record {
                     room = taking .built .room;

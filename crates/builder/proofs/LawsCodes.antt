@@ -1,17 +1,15 @@
 -- Laws of the codes, "1 required, 2 optional, 3 defaulted, 4 the / mark, 5 the bare * mark, 6 *args, 7 **kwargs": what holds at each code
 -- of a range holds of a code in it; then what `rules` says of a step's code, range by range. Assumes nothing.
-use mathlib.Core.Path.{_≡_, refl, _∙_}
-use mathlib.Core.Bool.{true, false, not, _&&_, _||_}
+use mathlib.Core.Path.{_≡_, refl}
+use mathlib.Core.Bool.{true, false, _&&_}
 use mathlib.Core.List.{List}
 use Prim.Native.Nat.{ℕ, zero, suc, _<_, _≤_}
 use native.Mathlib.Omega.{arith}
 use native.Mathlib.Decide.{decLe}
 use lib.Dec.{eqb}
-use Rattle.rules.specs.Text.{isText}
-use Rattle.rules.specs.Value.{Value, wellFormedDefault}
-use Rattle.rules.specs.ParameterRecord.{Step as RecordStep}
-use Rattle.rules.specs.Parameters.{Style, comesBefore, noMore, namedOnly, adds, unknownCode, act, actOf, mayStand, plain}
-use Rattle.rules.specs.ParameterQuestions.{isCode, hasName, stepName, usesRight, isZero}
+use Rattle.rules.specs.Value.{Value}
+use Rattle.rules.specs.Parameters.{Style, comesBefore, namedOnly, adds, unknownCode, actOf, mayStand, plain}
+use Rattle.rules.specs.ParameterQuestions.{isCode, hasName, usesRight, isZero}
 use Rattle.builder.specs.Params.{kindFor}
 
 -- ---- a code in a range

@@ -1,8 +1,8 @@
 -- Laws of lists given by their elements and of what `rules` computes over a list, in this order: how long such a list is; its first
--- element and the rest, as a loop over it asks; one more element at the end; equal elements; then tests, counts and first
--- indices after one more element at the end. Assumes nothing.
-use mathlib.Core.Path.{_≡_, refl, sym, ap, _∙_}
-use mathlib.Core.Bool.{Bool, true, false, cond, _&&_, _||_}
+-- element and the rest; one more element at the end; equal elements; counts and first indices after one more element at the end;
+-- tests of all or any of the elements, as a loop over the list asks for them. Assumes nothing.
+use mathlib.Core.Path.{_≡_, refl, ap, _∙_}
+use mathlib.Core.Bool.{Bool, true, false, cond}
 use mathlib.Core.List.{List, [], _∷_, _++_}
 use mathlib.Core.Option.{Option, none, some}
 use Prim.Native.Nat.{ℕ, zero, suc, _+_, _-_, _<_, _≤_}

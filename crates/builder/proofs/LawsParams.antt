@@ -1,9 +1,9 @@
--- Laws of the parameters as the code holds them: codes 1 to 3 and no other are plain; a style's number gives the style back; which
--- parameters are nameable. Assumes nothing.
+-- Laws of the parameters as the code holds them, in this order: a style's number gives the style back; which parameters are nameable; one
+-- more parameter at the end of the columns; a search over them. Assumes nothing.
 use mathlib.Core.Path.{_≡_, refl, sym, ap, _∙_}
-use mathlib.Core.Bool.{Bool, true, false, cond, not, _&&_, _||_}
+use mathlib.Core.Bool.{Bool, true, false, _&&_}
 use mathlib.Core.List.{List, [], _∷_, _++_, map}
-use Prim.Native.Nat.{ℕ, zero, suc, _+_, _-_, _<_, _≤_}
+use Prim.Native.Nat.{ℕ, zero, suc, _+_, _<_, _≤_}
 use native.Mathlib.Omega.{arith}
 use native.Mathlib.Decide.{decLe}
 use mathlib.Core.Logic.{_⊎_, ⊎-elim}
@@ -12,9 +12,8 @@ use lib.Seq.{getD-set-same, getD-set-other}
 use Rattle.rules.specs.Text.{sameBytes, bytesAt, textIn}
 use Rattle.rules.specs.Lookup.{names}
 use Rattle.rules.specs.Value.{Value, noValue}
-use Rattle.rules.specs.Parameters.{Style, posOnly, posOrNamed, namedOnly, noMore, rank, actOf, plain, takesName, nameable, Parameter}
+use Rattle.rules.specs.Parameters.{Style, posOnly, posOrNamed, namedOnly, noMore, rank, actOf, plain, takesName, nameable}
 use Rattle.builder.specs.declared.params.Parameters.{Parameters}
-use Rattle.builder.specs.Listed.{listed}
 use Rattle.builder.specs.Params.{styleFor, kindFor, parameterOf, parameterAt, parametersIn, mayBeNamed}
 use Rattle.builder.proofs.LawsCodes.{code-0, plain-code, plain-above}
 use Rattle.builder.proofs.LawsListed.{listed-more, listed-same, snoc-same}

@@ -1,22 +1,22 @@
 -- Laws of the parameter record, in this order: its steps by consuming the cells are its steps by index; a step's cells; what
 -- questions 2 to 4 say of a step; what a loop over the steps has left to ask. Assumes nothing.
 use mathlib.Core.Path.{_≡_, refl, sym, ap, _∙_}
-use mathlib.Core.Bool.{Bool, true, false, not, cond, _&&_, _||_}
-use mathlib.Core.List.{List, [], _∷_}
+use mathlib.Core.Bool.{Bool, true, false, not, cond, _&&_}
+use mathlib.Core.List.{List, _∷_}
 use Prim.Native.Nat.{ℕ, zero, suc, _+_, _-_, _*_, _<_, _≤_}
 use native.Mathlib.Nat.{add-zero, sub-zero}
 use native.Mathlib.Omega.{arith}
 use lib.Dec.{eqb}
 use borrow.Author.Tests.{not-true, not-false}
-use lib.ListN.{length, drop, getD}
+use lib.ListN.{drop, getD}
 use lib.Seq.{drop-drop, getD-drop}
 use Rattle.rules.specs.Cells.{readEach}
 use Rattle.rules.specs.Listing.{all}
 use Rattle.rules.specs.Text.{isText}
-use Rattle.rules.specs.Value.{Value, readValue, wellFormedDefault}
+use Rattle.rules.specs.Value.{readValue, wellFormedDefault}
 use Rattle.rules.specs.ParameterRecord.{Step as RecordStep, readStep, stepWidth, stepCount, readParameters}
-use Rattle.rules.specs.Parameters.{act, actOf}
-use Rattle.rules.specs.ParameterQuestions.{isCode, hasName, stepName, namesInside, usesRight, isZero}
+use Rattle.rules.specs.Parameters.{act}
+use Rattle.rules.specs.ParameterQuestions.{isCode, stepName, namesInside, usesRight, isZero}
 use Rattle.cells.specs.declared.text.Text.{Text}
 use Rattle.cells.specs.declared.text.ReadText.the-variants as text
 use Rattle.cells.specs.declared.value.Value.{Value as CodeValue}

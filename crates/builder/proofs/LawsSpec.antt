@@ -1,73 +1,29 @@
--- Laws of the builder's steps, in this order: the promise of a step from its answer; what is asked of a mark and of a step that adds a
--- parameter; a step that adds one, refused and taken; the counts and indices after it, for each of the three ways to add.
--- Assumes nothing.
+-- Laws of the builder's steps, in this order: the promise of a step from its answer; the marks; a step that adds a parameter, refused and
+-- taken, with the counts and indices after it; the three ways to add; a code refused against the style. Assumes nothing.
 use mathlib.Core.Path.{_≡_, refl, sym, ap, subst, _∙_}
-use mathlib.Core.Bool.{Bool, true, false, cond, not, _&&_, _||_, false≢true}
+use mathlib.Core.Bool.{true, false, cond, false≢true}
 use mathlib.Core.List.{List, [], _∷_, _++_, append-nil}
 use mathlib.Core.Option.{Option, none, some}
-use Prim.Native.Nat.{ℕ, zero, suc, _+_, _-_, _<_, _≤_}
+use Prim.Native.Nat.{ℕ, _+_, _<_, _≤_}
 use native.Mathlib.Nat.{zero-add}
 use native.Mathlib.Omega.{arith}
-use lib.Dec.{ltb}
 use lib.ListN.{length}
-use borrow.Author.Tests.{lt-ltb, le-ltb}
-use Rattle.rules.specs.Answer.{fine, refuse, ask, _then_, none as noDetail}
-use Rattle.rules.specs.Text.{textIn, bytesAt}
-use Rattle.rules.specs.Value.{Value}
+use Rattle.rules.specs.Answer.{fine, refuse, none as noDetail}
+use Rattle.rules.specs.Text.{textIn}
 use Rattle.rules.specs.ParameterRecord.{Step as RecordStep}
-use Rattle.rules.specs.Parameters.{Style, posOnly, posOrNamed, namedOnly, noMore, ParameterKind, required, optional, defaulted, args, kwargs, Act, adds, slash, bareStar, unknownCode, act, actOf, mayStand, nextStyle, Parameter, plain, takesName, takesPosition, comesBefore, positional, positionalOnly, isArgs, isKwargs, added, positionalOnlyCount, positionalCount, argsIndex, kwargsIndex}
-use Rattle.rules.specs.Lookup.{known}
-use Rattle.rules.specs.ParameterQuestions.{askStep}
+use Rattle.rules.specs.Parameters.{Style, posOnly, posOrNamed, namedOnly, noMore, ParameterKind, required, args, kwargs, adds, slash, bareStar, act, actOf, mayStand, nextStyle, Parameter, plain, takesPosition, comesBefore, positional, positionalOnly, isArgs, isKwargs, added, positionalOnlyCount, positionalCount, argsIndex, kwargsIndex}
+use Rattle.rules.specs.ParameterQuestions.{nameIsNew, askStep}
 use Rattle.builder.specs.declared.params.CurrentParameterStyle.{CurrentParameterStyle}
-use Rattle.builder.specs.declared.params.CurrentParameterStyle.the-variants.{PosOnly, PosOrNamed, NamedOnly, NoMore}
+use Rattle.builder.specs.declared.params.CurrentParameterStyle.the-variants.{PosOrNamed, NamedOnly, NoMore}
 use Rattle.builder.specs.declared.params.Step.{Step}
 use Rattle.builder.specs.declared.spec.Index.the-variants.{At, Absent}
 use Rattle.cells.specs.declared.answer.Answer.the-variants.{Fine, Refused}
 use Rattle.builder.specs.declared.spec.ParametersSpecBuilder.{ParametersSpecBuilder}
 use Rattle.builder.specs.Params.{styleOf, kindFor, stepOf, parametersIn, Pushed}
-use Rattle.builder.specs.Spec.{SoFar, Built, Stepping, refusedBy, underStyle, listOfBuilder, indexOf}
+use Rattle.builder.specs.Spec.{SoFar, Built, Stepping, refusedBy, underStyle, styleIn, listIn, indexOf}
 use Rattle.builder.proofs.LawsListed.{length-listed, tally-snoc, first-snoc, orFirst}
-use Rattle.builder.proofs.LawsCodes.{code-8, plain-code, plain-adds, mayStand-star}
-
--- ---- what is asked of a step, over the number A of parameters that a list may have
-
-module _ (A : ℕ) (area : List ℕ) (s : Style) (before : List Parameter) (t : RecordStep) where
-  -- "5 may it stand here?"
-  pub askStep-5 : mayStand s (act t) ≡ false → askStep A area s before t ≡ refuse 5 noDetail
-  unfolding askStep
-  askStep-5 e = rw e
-
-  pub askStep-slash : act t ≡ slash → mayStand s slash ≡ true → askStep A area s before t ≡ fine
-  unfolding askStep
-  askStep-slash e m = rw (e, m)
-
-  pub askStep-star : act t ≡ bareStar → mayStand s bareStar ≡ true → askStep A area s before t ≡ fine
-  unfolding askStep
-  askStep-star e m = rw (e, m)
-
-  -- a step that adds a parameter and may stand here is asked 6 and 7
-  module _ (k : ParameterKind) (e : act t ≡ adds k) (m : mayStand s (adds k) ≡ true) where
-    askStep-adds
-        : askStep A area s before t
-        ≡ ask 6 (ltb (length before) A)
-        then ask 7 (not (plain k && takesName s) || not (known before (bytesAt area (t .name))))
-    unfolding askStep
-    askStep-adds = rw (e, m)
-
-    pub askStep-6 : A ≤ length before → askStep A area s before t ≡ refuse 6 noDetail
-    askStep-6 h = askStep-adds ∙ rw (le-ltb (length before) A h)
-
-    pub askStep-7
-        : length before < A
-        → not (plain k && takesName s) || not (known before (bytesAt area (t .name))) ≡ false
-        → askStep A area s before t ≡ refuse 7 noDetail
-    askStep-7 h n = askStep-adds ∙ rw (lt-ltb (length before) A h, n)
-
-    pub askStep-fine
-        : length before < A
-        → not (plain k && takesName s) || not (known before (bytesAt area (t .name))) ≡ true
-        → askStep A area s before t ≡ fine
-    askStep-fine h n = askStep-adds ∙ rw (lt-ltb (length before) A h, n)
+use Rattle.builder.proofs.LawsCodes.{code-8, mayStand-star}
+use Rattle.builder.proofs.LawsAsk.{askStep-5, askStep-slash, askStep-star, askStep-6, askStep-7, askStep-fine, mayStand-plain, nextStyle-plain, isArgs-plain, isKwargs-plain, act-code, act-plain, kind-plain}
 
 -- ---- the promise of a step
 
@@ -77,14 +33,14 @@ never-fine n e = let z : _≡_ {A = ℕ} 0 1 = cc in absurd (omega arith)
 pub never-refused : {X : Type 0} (n : ℕ) → Fine ≡ Refused n → X
 never-refused n e = let z : _≡_ {A = ℕ} 0 1 = cc in absurd (omega arith)
 
-pub length-parametersIn : (area : List ℕ) (b : ParametersSpecBuilder) → length (listOfBuilder area b) ≡ b .params .len
+pub length-parametersIn : (area : List ℕ) (b : ParametersSpecBuilder) → length (listIn area b) ≡ b .params .len
 unfolding parametersIn
 length-parametersIn area b = length-listed _ 0 (b .params .len)
 
 module _ (area : List ℕ) (b : ParametersSpecBuilder) (t : RecordStep) where
   pub stepping-refused
       : (n : ℕ)
-      → askStep 64 area (styleOf (b .«current_style»)) (listOfBuilder area b) t ≡ refuse n noDetail
+      → askStep 64 area (styleIn b) (listIn area b) t ≡ refuse n noDetail
       → Stepping area b t (refusedBy n b)
   stepping-refused n e =
       record {
@@ -97,9 +53,9 @@ module _ (area : List ℕ) (b : ParametersSpecBuilder) (t : RecordStep) where
 
   pub stepping-fine
       : (b' : ParametersSpecBuilder)
-      → askStep 64 area (styleOf (b .«current_style»)) (listOfBuilder area b) t ≡ fine
-      → styleOf (b' .«current_style») ≡ nextStyle (styleOf (b .«current_style»)) (act t)
-      → listOfBuilder area b' ≡ listOfBuilder area b ++ added area (styleOf (b .«current_style»)) (act t) (t .name)
+      → askStep 64 area (styleIn b) (listIn area b) t ≡ fine
+      → styleIn b' ≡ nextStyle (styleIn b) (act t)
+      → listIn area b' ≡ listIn area b ++ added area (styleIn b) (act t) (t .name)
       → (Built area b → Built area b')
       → Stepping area b t (record { answer = Fine; builder = b' })
   stepping-fine b' e style list built =
@@ -111,20 +67,19 @@ module _ (area : List ℕ) (b : ParametersSpecBuilder) (t : RecordStep) where
         built = built;
       }
 
-  -- ---- the marks, which change the style alone
+  pub stepping-5 : mayStand (styleIn b) (act t) ≡ false → Stepping area b t (refusedBy 5 b)
+  stepping-5 e = stepping-refused 5 (askStep-5 64 area (styleIn b) (listIn area b) t e)
 
-  pub stepping-5 : mayStand (styleOf (b .«current_style»)) (act t) ≡ false → Stepping area b t (refusedBy 5 b)
-  stepping-5 e = stepping-refused 5 (askStep-5 64 area (styleOf (b .«current_style»)) (listOfBuilder area b) t e)
-
+  -- a mark changes the style alone
   stepping-mark
       : (style : CurrentParameterStyle)
-      → askStep 64 area (styleOf (b .«current_style»)) (listOfBuilder area b) t ≡ fine
-      → styleOf style ≡ nextStyle (styleOf (b .«current_style»)) (act t)
-      → added area (styleOf (b .«current_style»)) (act t) (t .name) ≡ []
-      → (SoFar (styleOf (b .«current_style»)) b → SoFar (styleOf style) (underStyle style b .builder))
+      → askStep 64 area (styleIn b) (listIn area b) t ≡ fine
+      → styleOf style ≡ nextStyle (styleIn b) (act t)
+      → added area (styleIn b) (act t) (t .name) ≡ []
+      → (SoFar (styleIn b) b → SoFar (styleOf style) (underStyle style b .builder))
       → Stepping area b t (underStyle style b)
   stepping-mark style e next nothing sofar =
-      stepping-fine (underStyle style b .builder) e next (rw nothing (sym (append-nil (listOfBuilder area b))))
+      stepping-fine (underStyle style b .builder) e next (rw nothing (sym (append-nil (listIn area b))))
       (λ h.
       record {
         room = h .room;
@@ -135,6 +90,9 @@ module _ (area : List ℕ) (b : ParametersSpecBuilder) (t : RecordStep) where
         sofar = sofar (h .sofar);
       })
 
+-- ---- the marks
+
+-- before NamedOnly there is neither *args nor **kwargs, and before NoMore no **kwargs
 sofar-named
     : (s : Style) (b : ParametersSpecBuilder)
     → comesBefore s namedOnly ≡ true → SoFar s b → (b .args ≡ Absent) × (b .kwargs ≡ Absent)
@@ -154,11 +112,11 @@ sofar-more noMore b m h = absurd (false≢true m)
 -- "Code 4 gives PosOrNamed": the / mark
 pub stepping-slash
     : (area : List ℕ) (b : ParametersSpecBuilder) (t : RecordStep)
-    → styleOf (b .«current_style») ≡ posOnly → act t ≡ slash → Stepping area b t (underStyle PosOrNamed b)
+    → styleIn b ≡ posOnly → act t ≡ slash → Stepping area b t (underStyle PosOrNamed b)
 unfolding comesBefore
 stepping-slash area b t s e =
     stepping-mark area b t PosOrNamed
-    (askStep-slash 64 area (styleOf (b .«current_style»)) (listOfBuilder area b) t e (rw s))
+    (askStep-slash 64 area (styleIn b) (listIn area b) t e (rw s))
     (rw e)
     (rw e)
     (rw s (λ h. (h .1, h .2, h .3)))
@@ -166,52 +124,52 @@ stepping-slash area b t s e =
 -- "5 and 6 NamedOnly": the bare * mark
 pub stepping-star
     : (area : List ℕ) (b : ParametersSpecBuilder) (t : RecordStep)
-    → comesBefore (styleOf (b .«current_style»)) namedOnly ≡ true → act t ≡ bareStar → Stepping area b t (underStyle NamedOnly b)
+    → comesBefore (styleIn b) namedOnly ≡ true → act t ≡ bareStar → Stepping area b t (underStyle NamedOnly b)
 stepping-star area b t s e =
     stepping-mark area b t NamedOnly
-    (askStep-star 64 area (styleOf (b .«current_style»)) (listOfBuilder area b) t e s)
+    (askStep-star 64 area (styleIn b) (listIn area b) t e s)
     (rw e)
     (rw e)
-    (λ h. sofar-named (styleOf (b .«current_style»)) b s h .1)
+    (λ h. sofar-named (styleIn b) b s h .1)
 
 -- ---- a step that adds a parameter
 
 module _
     (area : List ℕ) (b : ParametersSpecBuilder) (s : Step) (k : ParameterKind)
-    (e : act (stepOf s) ≡ adds k) (m : mayStand (styleOf (b .«current_style»)) (adds k) ≡ true) where
+    (e : act (stepOf s) ≡ adds k) (m : mayStand (styleIn b) (adds k) ≡ true) where
   pub adding-6 : 64 ≤ b .params .len → Stepping area b (stepOf s) (refusedBy 6 b)
   adding-6 h =
       stepping-refused area b (stepOf s) 6
-      (askStep-6 64 area (styleOf (b .«current_style»)) (listOfBuilder area b) (stepOf s) k e m (rw length-parametersIn h))
+      (askStep-6 64 area (styleIn b) (listIn area b) (stepOf s) k e m (rw length-parametersIn h))
 
   pub adding-7
       : b .params .len < 64
-      → not (plain k && takesName (styleOf (b .«current_style»))) || not (known (listOfBuilder area b) (bytesAt area (s .name))) ≡ false
+      → nameIsNew area (styleIn b) (listIn area b) (adds k) (s .name) ≡ false
       → Stepping area b (stepOf s) (refusedBy 7 b)
   unfolding stepOf
   adding-7 h n =
       stepping-refused area b (stepOf s) 7
-      (askStep-7 64 area (styleOf (b .«current_style»)) (listOfBuilder area b) (stepOf s) k e m (rw length-parametersIn h) n)
+      (askStep-7 64 area (styleIn b) (listIn area b) (stepOf s) k e m (rw length-parametersIn h) n)
 
   -- the parameter added
   abbrev pub newest : Parameter
-  newest = record { kind = k; style = styleOf (b .«current_style»); name = textIn area (s .name) }
+  newest = record { kind = k; style = styleIn b; name = textIn area (s .name) }
 
   module _ (b' : ParametersSpecBuilder) (p : Pushed (b .params) (b .«current_style») s (b' .params)) where
-    list-newest : listOfBuilder area b' ≡ listOfBuilder area b ++ newest ∷ []
+    list-newest : listIn area b' ≡ listIn area b ++ newest ∷ []
     unfolding act stepOf
     list-newest = p .list area ∙ rw e
 
     pub adding-fine
         : b .params .len < 64
-        → not (plain k && takesName (styleOf (b .«current_style»))) || not (known (listOfBuilder area b) (bytesAt area (s .name))) ≡ true
-        → styleOf (b' .«current_style») ≡ nextStyle (styleOf (b .«current_style»)) (adds k)
+        → nameIsNew area (styleIn b) (listIn area b) (adds k) (s .name) ≡ true
+        → styleIn b' ≡ nextStyle (styleIn b) (adds k)
         → (Built area b → Built area b')
         → Stepping area b (stepOf s) (record { answer = Fine; builder = b' })
     unfolding stepOf
     adding-fine h n style built =
         stepping-fine area b (stepOf s) b'
-        (askStep-fine 64 area (styleOf (b .«current_style»)) (listOfBuilder area b) (stepOf s) k e m (rw length-parametersIn h) n)
+        (askStep-fine 64 area (styleIn b) (listIn area b) (stepOf s) k e m (rw length-parametersIn h) n)
         (rw e style)
         (list-newest ∙ rw e)
         built
@@ -223,7 +181,7 @@ module _
         → b' .positional ≡ cond (positional newest) (b .positional + 1) (b .positional)
         → indexOf (b' .args) ≡ orFirst (indexOf (b .args)) (isArgs k) (b .params .len)
         → indexOf (b' .kwargs) ≡ orFirst (indexOf (b .kwargs)) (isKwargs k) (b .params .len)
-        → SoFar (styleOf (b' .«current_style»)) b'
+        → SoFar (styleIn b') b'
         → Built area b
         → Built area b'
     unfolding positionalOnlyCount positionalCount argsIndex kwargsIndex
@@ -264,55 +222,27 @@ orFirst-false : (o : Option ℕ) (i : ℕ) → o ≡ orFirst o false i
 orFirst-false none i = refl
 orFirst-false (some j) i = refl
 
-pub mayStand-plain : (s : Style) (k : ParameterKind) → plain k ≡ true → mayStand s (adds k) ≡ comesBefore s noMore
-mayStand-plain s required e = refl
-mayStand-plain s optional e = refl
-mayStand-plain s (defaulted v) e = refl
-mayStand-plain s args e = absurd (false≢true e)
-mayStand-plain s kwargs e = absurd (false≢true e)
-
-nextStyle-plain : (s : Style) (k : ParameterKind) → plain k ≡ true → s ≡ nextStyle s (adds k)
-nextStyle-plain s required e = refl
-nextStyle-plain s optional e = refl
-nextStyle-plain s (defaulted v) e = refl
-nextStyle-plain s args e = absurd (false≢true e)
-nextStyle-plain s kwargs e = absurd (false≢true e)
-
-isArgs-plain : (k : ParameterKind) → plain k ≡ true → isArgs k ≡ false
-isArgs-plain required e = refl
-isArgs-plain optional e = refl
-isArgs-plain (defaulted v) e = refl
-isArgs-plain args e = absurd (false≢true e)
-isArgs-plain kwargs e = refl
-
-isKwargs-plain : (k : ParameterKind) → plain k ≡ true → isKwargs k ≡ false
-isKwargs-plain required e = refl
-isKwargs-plain optional e = refl
-isKwargs-plain (defaulted v) e = refl
-isKwargs-plain args e = refl
-isKwargs-plain kwargs e = absurd (false≢true e)
-
 -- a plain parameter, under the style that stays
 pub adding-plain
     : (area : List ℕ) (b b' : ParametersSpecBuilder) (s : Step) (k : ParameterKind)
     → act (stepOf s) ≡ adds k
     → plain k ≡ true
-    → comesBefore (styleOf (b .«current_style»)) noMore ≡ true
+    → comesBefore (styleIn b) noMore ≡ true
     → b .params .len < 64
-    → not (takesName (styleOf (b .«current_style»))) || not (known (listOfBuilder area b) (bytesAt area (s .name))) ≡ true
+    → nameIsNew area (styleIn b) (listIn area b) (adds required) (s .name) ≡ true
     → Pushed (b .params) (b .«current_style») s (b' .params)
-    → b' .«positional_only» ≡ cond (comesBefore (styleOf (b .«current_style»)) posOrNamed) (b .params .len + 1) (b .«positional_only»)
-    → b' .positional ≡ cond (takesPosition (styleOf (b .«current_style»))) (b .params .len + 1) (b .positional)
+    → b' .«positional_only» ≡ cond (comesBefore (styleIn b) posOrNamed) (b .params .len + 1) (b .«positional_only»)
+    → b' .positional ≡ cond (takesPosition (styleIn b)) (b .params .len + 1) (b .positional)
     → b' .«current_style» ≡ b .«current_style»
     → b' .args ≡ b .args
     → b' .kwargs ≡ b .kwargs
     → Stepping area b (stepOf s) (record { answer = Fine; builder = b' })
 unfolding positionalOnly positional
 adding-plain area b b' s k e pk m h n p only all same star double =
-    let stands : mayStand (styleOf (b .«current_style»)) (adds k) ≡ true = mayStand-plain (styleOf (b .«current_style»)) k pk ∙ m in
-    adding-fine area b s k e stands b' p h (rw pk n) (ap styleOf same ∙ nextStyle-plain (styleOf (b .«current_style»)) k pk)
+    let stands : mayStand (styleIn b) (adds k) ≡ true = mayStand-plain (styleIn b) k pk ∙ m in
+    adding-fine area b s k e stands b' p h (rw pk n) (ap styleOf same ∙ nextStyle-plain (styleIn b) k pk)
     (λ was.
-    let so = add-sofar (styleOf (b .«current_style»)) b b' m (p .len) only all star double (was .sofar) in
+    let so = add-sofar (styleIn b) b b' m (p .len) only all star double (was .sofar) in
     built-newest area b s k e stands b' p h
     (rw pk (so .0))
     (rw pk (so .1))
@@ -325,12 +255,12 @@ adding-plain area b b' s k e pk m h n p only all same star double =
 pub adding-args
     : (area : List ℕ) (b b' : ParametersSpecBuilder) (s : Step)
     → act (stepOf s) ≡ adds args
-    → comesBefore (styleOf (b .«current_style»)) namedOnly ≡ true
+    → comesBefore (styleIn b) namedOnly ≡ true
     → b .params .len < 64
     → Pushed (b .params) (b .«current_style») s (b' .params)
     → b' .«positional_only» ≡ b .«positional_only»
     → b' .positional ≡ b .positional
-    → styleOf (b' .«current_style») ≡ namedOnly
+    → styleIn b' ≡ namedOnly
     → b' .args ≡ At (b .params .len)
     → b' .kwargs ≡ b .kwargs
     → Stepping area b (stepOf s) (record { answer = Fine; builder = b' })
@@ -338,7 +268,7 @@ unfolding positionalOnly positional
 adding-args area b b' s e m h p only all style star double =
     adding-fine area b s args e m b' p h refl style
     (λ was.
-    let so = sofar-named (styleOf (b .«current_style»)) b m (was .sofar) in
+    let so = sofar-named (styleIn b) b m (was .sofar) in
     built-newest area b s args e m b' p h only all
     (rw (star, so .0))
     (ap indexOf double ∙ orFirst-false (indexOf (b .kwargs)) (b .params .len))
@@ -349,12 +279,12 @@ adding-args area b b' s e m h p only all style star double =
 pub adding-kwargs
     : (area : List ℕ) (b b' : ParametersSpecBuilder) (s : Step)
     → act (stepOf s) ≡ adds kwargs
-    → comesBefore (styleOf (b .«current_style»)) noMore ≡ true
+    → comesBefore (styleIn b) noMore ≡ true
     → b .params .len < 64
     → Pushed (b .params) (b .«current_style») s (b' .params)
     → b' .«positional_only» ≡ b .«positional_only»
     → b' .positional ≡ b .positional
-    → styleOf (b' .«current_style») ≡ noMore
+    → styleIn b' ≡ noMore
     → b' .args ≡ b .args
     → b' .kwargs ≡ At (b .params .len)
     → Stepping area b (stepOf s) (record { answer = Fine; builder = b' })
@@ -364,23 +294,11 @@ adding-kwargs area b b' s e m h p only all style star double =
     (λ was.
     built-newest area b s kwargs e m b' p h only all
     (ap indexOf star ∙ orFirst-false (indexOf (b .args)) (b .params .len))
-    (rw (double, sofar-more (styleOf (b .«current_style»)) b m (was .sofar)))
+    (rw (double, sofar-more (styleIn b) b m (was .sofar)))
     (rw style tt)
     was)
 
 -- ---- a code judged against the style
-
-pub act-code : (s : Step) (n : ℕ) → s .code ≡ n → act (stepOf s) ≡ actOf n (stepOf s .default)
-unfolding act stepOf
-act-code s n e = rw e
-
-pub act-plain : (s : Step) → 1 ≤ s .code → s .code < 4 → act (stepOf s) ≡ adds (kindFor (act (stepOf s)))
-unfolding act stepOf
-act-plain s l u = plain-adds (stepOf s .default) (s .code) l u
-
-pub kind-plain : (s : Step) → 1 ≤ s .code → s .code < 4 → plain (kindFor (act (stepOf s))) ≡ true
-unfolding act stepOf
-kind-plain s l u = plain-code (stepOf s .default) (s .code) l u
 
 module _ (area : List ℕ) (b : ParametersSpecBuilder) (s : Step) where
   pub refused-code
@@ -394,7 +312,7 @@ module _ (area : List ℕ) (b : ParametersSpecBuilder) (s : Step) where
   unfolding comesBefore
   refused-plain l u d =
       stepping-5 area b (stepOf s)
-      (rw (act-plain s l u) (mayStand-plain (styleOf (b .«current_style»)) (kindFor (act (stepOf s))) (kind-plain s l u) ∙ rw d))
+      (rw (act-plain s l u) (mayStand-plain (styleIn b) (kindFor (act (stepOf s))) (kind-plain s l u) ∙ rw d))
 
   pub refused-star
       : (style : CurrentParameterStyle)
@@ -403,7 +321,7 @@ module _ (area : List ℕ) (b : ParametersSpecBuilder) (s : Step) where
       → Stepping area b (stepOf s) (refusedBy 5 b)
   refused-star style l u d m =
       stepping-5 area b (stepOf s)
-      (rw (act-code s (s .code) refl) (mayStand-star (stepOf s .default) (styleOf (b .«current_style»)) (s .code) l u ∙ rw d m))
+      (rw (act-code s (s .code) refl) (mayStand-star (stepOf s .default) (styleIn b) (s .code) l u ∙ rw d m))
 
   pub refused-above : 8 ≤ s .code → Stepping area b (stepOf s) (refusedBy 5 b)
   refused-above l =

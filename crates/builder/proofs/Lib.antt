@@ -2,6 +2,7 @@
 pub mod LawsListed
 pub mod LawsCodes
 pub mod LawsParams
+pub mod LawsAsk
 pub mod LawsSpec
 pub mod LawsRecord
 pub mod LawsBuild

@@ -3,11 +3,11 @@ use mathlib.Core.List.{List, []}
 use mathlib.Core.Path.{_≡_}
 use Prim.Native.Nat.{ℕ, _≤_}
 use Rattle.rules.specs.ParameterRecord.{readParameters}
-use Rattle.rules.specs.Parameters.{posOnly, Parameter, addedFrom, positionalOnlyCount, positionalCount, argsIndex, kwargsIndex}
+use Rattle.rules.specs.Parameters.{posOnly, Parameter, positionalOnlyCount, positionalCount, argsIndex, kwargsIndex}
 use Rattle.rules.specs.ParameterQuestions.{askSteps, askParameters, listOf}
 use Rattle.builder.specs.Params.{parametersIn}
-use Rattle.builder.specs.Spec.{indexOf, listOfBuilder, Built}
 use Rattle.cells.specs.Answer.{answerOf}
+use Rattle.builder.specs.Spec.{indexOf, listIn, Built}
 use Rattle.cells.specs.declared.answer.Answer.the-variants.{Fine, Refused}
 use Rattle.builder.specs.declared.spec.Stepped.{Stepped}
 use Rattle.builder.specs.declared.spec.ParametersSpec.{ParametersSpec}
@@ -16,7 +16,7 @@ use Rattle.builder.specs.declared.spec.Finished.{Finished}
 -- the steps of a record: the first "no" of questions 5 to 7, or all the parameters that they add
 pub record Taking (cells area : List ℕ) (r : Stepped) : Type 0 where
   pub answer : answerOf (r .answer) ≡ askSteps 64 area posOnly [] (readParameters cells .steps)
-  pub list : r .answer ≡ Fine → listOfBuilder area (r .builder) ≡ listOf cells area
+  pub list : r .answer ≡ Fine → listIn area (r .builder) ≡ listOf cells area
   pub built : Built area (r .builder)
 
 -- a list of the code is this list of `rules`: each parameter's kind, style, name and default; both counts; and the indices of

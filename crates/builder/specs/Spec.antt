@@ -2,9 +2,9 @@
 use mathlib.Core.List.{List, [], _++_}
 use mathlib.Core.Option.{Option, none, some}
 use mathlib.Core.Path.{_≡_}
-use Prim.Native.Nat.{ℕ, _+_, _≤_}
+use Prim.Native.Nat.{ℕ, _≤_}
 use lib.Dec.{leb}
-use Rattle.rules.specs.Answer.{Answer as RuleAnswer, fine, refuse, ask, none as noDetail}
+use Rattle.rules.specs.Answer.{ask}
 use Rattle.rules.specs.ParameterRecord.{Step as RecordStep}
 use Rattle.rules.specs.Parameters.{Style, posOnly, posOrNamed, namedOnly, noMore, Parameter, act, nextStyle, added, positionalOnlyCount, positionalCount, argsIndex, kwargsIndex}
 use Rattle.rules.specs.ParameterQuestions.{askStep}
@@ -13,7 +13,6 @@ use Rattle.builder.specs.Params.{styleOf, parametersIn}
 use Rattle.builder.specs.declared.params.CurrentParameterStyle.{CurrentParameterStyle}
 use Rattle.builder.specs.declared.spec.Index.{Index}
 use Rattle.builder.specs.declared.spec.Index.the-variants.{At, Absent}
-use Rattle.cells.specs.declared.answer.Answer.{Answer}
 use Rattle.cells.specs.declared.answer.Answer.the-variants.{Fine, Refused}
 use Rattle.builder.specs.declared.spec.ParametersSpecBuilder.{ParametersSpecBuilder}
 use Rattle.builder.specs.declared.spec.Stepped.{Stepped}
@@ -43,9 +42,12 @@ underStyle style b =
           };
     }
 
--- the builder's parameters as a list of `rules`
-abbrev pub listOfBuilder : List ℕ → ParametersSpecBuilder → List Parameter
-listOfBuilder area b = parametersIn area (b .params)
+-- the builder's style and its parameters, as `rules` has them
+abbrev pub styleIn : ParametersSpecBuilder → Style
+styleIn b = styleOf (b .«current_style»)
+
+abbrev pub listIn : List ℕ → ParametersSpecBuilder → List Parameter
+listIn area b = parametersIn area (b .params)
 
 -- what the style says of the parameters so far: under PosOnly all are positional-only, before NamedOnly all are positional and
 -- there is no *args, before NoMore there is no **kwargs
@@ -62,27 +64,27 @@ SoFar noMore b = Unit
 -- the state is one that steps lead to: its counts and indices are those of its list
 pub record Built (area : List ℕ) (b : ParametersSpecBuilder) : Type 0 where
   pub room : b .params .len ≤ 64
-  pub positionalOnly : b .«positional_only» ≡ positionalOnlyCount (listOfBuilder area b)
-  pub positional : b .positional ≡ positionalCount (listOfBuilder area b)
-  pub args : indexOf (b .args) ≡ argsIndex (listOfBuilder area b)
-  pub kwargs : indexOf (b .kwargs) ≡ kwargsIndex (listOfBuilder area b)
-  pub sofar : SoFar (styleOf (b .«current_style»)) b
+  pub positionalOnly : b .«positional_only» ≡ positionalOnlyCount (listIn area b)
+  pub positional : b .positional ≡ positionalCount (listIn area b)
+  pub args : indexOf (b .args) ≡ argsIndex (listIn area b)
+  pub kwargs : indexOf (b .kwargs) ≡ kwargsIndex (listIn area b)
+  pub sofar : SoFar (styleIn b) b
 
 -- the builder without a parameter
 pub record Empty (b : ParametersSpecBuilder) : Type 0 where
-  pub style : styleOf (b .«current_style») ≡ posOnly
-  pub list : (area : List ℕ) → listOfBuilder area b ≡ []
+  pub style : styleIn b ≡ posOnly
+  pub list : (area : List ℕ) → listIn area b ≡ []
   pub built : (area : List ℕ) → Built area b
 
 -- a step: questions 5 to 7, the state as it was where one says no, and otherwise the next style and the parameter added
 pub record Stepping (area : List ℕ) (b : ParametersSpecBuilder) (t : RecordStep) (r : Stepped) : Type 0 where
-  pub answer : answerOf (r .answer) ≡ askStep 64 area (styleOf (b .«current_style»)) (listOfBuilder area b) t
+  pub answer : answerOf (r .answer) ≡ askStep 64 area (styleIn b) (listIn area b) t
   pub refused : (n : ℕ) → r .answer ≡ Refused n → r .builder ≡ b
-  pub style : r .answer ≡ Fine → styleOf (r .builder .«current_style») ≡ nextStyle (styleOf (b .«current_style»)) (act t)
+  pub style : r .answer ≡ Fine → styleIn (r .builder) ≡ nextStyle (styleIn b) (act t)
   pub list
       : r .answer ≡ Fine
-      → listOfBuilder area (r .builder)
-      ≡ listOfBuilder area b ++ added area (styleOf (b .«current_style»)) (act t) (t .name)
+      → listIn area (r .builder)
+      ≡ listIn area b ++ added area (styleIn b) (act t) (t .name)
   pub built : Built area b → Built area (r .builder)
 
 -- a list that is refused has no parameter

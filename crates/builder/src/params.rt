@@ -3,11 +3,12 @@
 // params of ParametersSpecBuilder), Apache-2.0.
 use cells::text::same;
 ghost use mathlib.Core.Path.{_≡_};
-ghost use mathlib.Core.Bool.{cond, not, _||_};
+ghost use mathlib.Core.Bool.{cond};
 ghost use Prim.Native.Nat.{_+_, _≤_, _<_};
 ghost use Rattle.rules.specs.Text.{bytesAt};
-ghost use Rattle.rules.specs.Parameters.{rank, takesName, takesPosition, comesBefore, posOrNamed};
+ghost use Rattle.rules.specs.Parameters.{rank, takesName, takesPosition, comesBefore, posOrNamed, adds, required};
 ghost use Rattle.rules.specs.Lookup.{known};
+ghost use Rattle.rules.specs.ParameterQuestions.{nameIsNew};
 ghost use Rattle.builder.specs.Params.{styleOf, mayBeNamed, parametersIn, Pushed};
 
 // The most parameters that a list can hold.
@@ -155,7 +156,7 @@ impl Parameters {
     // Is the name of a parameter that is added under this style new among the nameable ones, if it has to be?
     pub(crate) fn name_is_new(self, area: &[u8], style: CurrentParameterStyle, name: u64) -> bool
         requires { ⌜ self .len ≤ 64 ⌝ }
-        ensures { λ r. ⌜ r ≡ not (takesName (styleOf style)) || not (known (parametersIn (now (area .entry)) self) (bytesAt (now (area .entry)) name)) ⌝ }
+        ensures { λ r. ⌜ r ≡ nameIsNew (now (area .entry)) (styleOf style) (parametersIn (now (area .entry)) self) (adds required) name ⌝ }
     {
         if style.takes_name() {
             !self.known(area, bytes_at(area, name))

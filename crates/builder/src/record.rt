@@ -1,6 +1,7 @@
 // The parameter record (01, "Cells, texts and records"): its steps, and questions 1 to 4, each put to the whole record.
 use crate::params::CAPACITY;
 use crate::params::Step;
+use cells::record::cell;
 use cells::text::ReadText;
 use cells::text::read_text;
 use cells::value::ReadValue;
@@ -48,7 +49,7 @@ pub fn codes_known(cells: &[u64]) -> bool
 pub fn names_inside(cells: &[u64], area: &[u8]) -> bool
     ensures { λ r. ⌜ r ≡ namesInside (now (area .entry)) (readParameters (now (cells .entry))) ⌝ }
 {
-    if !is_name(area, cells::record::cell(cells, 0)) {
+    if !is_name(area, cell(cells, 0)) {
         return false;
     }
     let m = step_count(cells);

@@ -11,8 +11,8 @@ ghost use mathlib.Core.List.{List};
 ghost use Prim.Native.Nat.{ℕ, _≤_, _<_};
 ghost use Rattle.rules.specs.ParameterRecord.{Step as RecordStep};
 ghost use Rattle.rules.specs.Parameters.{act, slash, bareStar, comesBefore, posOnly, noMore, namedOnly};
-ghost use Rattle.builder.specs.Params.{styleOf, stepOf};
-ghost use Rattle.builder.specs.Spec.{Empty, NoList, Stepping, Finishing, refusedBy, underStyle};
+ghost use Rattle.builder.specs.Params.{stepOf};
+ghost use Rattle.builder.specs.Spec.{styleIn, Empty, NoList, Stepping, Finishing, refusedBy, underStyle};
 
 // A parameter's index, where there is such a parameter.
 pub enum Index {
@@ -112,9 +112,9 @@ impl ParametersSpecBuilder {
             },
             4 => match style {
                 CurrentParameterStyle::PosOnly => self.no_more_positional_only_args(),
-                CurrentParameterStyle::PosOrNamed => self.refused(5),
-                CurrentParameterStyle::NamedOnly => self.refused(5),
-                CurrentParameterStyle::NoMore => self.refused(5),
+                CurrentParameterStyle::PosOrNamed => self.refused(5), // after another `/`
+                CurrentParameterStyle::NamedOnly => self.refused(5), // after `*`
+                CurrentParameterStyle::NoMore => self.refused(5), // after `**kwargs`
             },
             5..=6 => match style {
                 CurrentParameterStyle::PosOnly => self.star(s),
@@ -164,7 +164,7 @@ impl ParametersSpecBuilder {
 
     // Following parameters can be filled positionally or by name.
     fn no_more_positional_only_args(self) -> Stepped
-        requires { ⌜ styleOf (self .«current_style») ≡ posOnly ⌝ }
+        requires { ⌜ styleIn self ≡ posOnly ⌝ }
         ensures { λ r. ⌜ ((area : List ℕ) (t : RecordStep) → act t ≡ slash → Stepping area self t r) ⌝ }
     {
         self.under(CurrentParameterStyle::PosOrNamed)
@@ -172,7 +172,7 @@ impl ParametersSpecBuilder {
 
     // There is no `*args`; following parameters can be filled only by name.
     fn no_more_positional_args(self) -> Stepped
-        requires { ⌜ comesBefore (styleOf (self .«current_style»)) namedOnly ≡ true ⌝ }
+        requires { ⌜ comesBefore (styleIn self) namedOnly ≡ true ⌝ }
         ensures { λ r. ⌜ ((area : List ℕ) (t : RecordStep) → act t ≡ bareStar → Stepping area self t r) ⌝ }
     {
         self.under(CurrentParameterStyle::NamedOnly)
@@ -180,7 +180,7 @@ impl ParametersSpecBuilder {
 
     // The bare `*`, code 5, or `*args`, code 6.
     fn star(self, s: Step) -> Stepped
-        requires { ⌜ (5 ≤ s .code) × (s .code < 7) × (comesBefore (styleOf (self .«current_style»)) namedOnly ≡ true) ⌝ }
+        requires { ⌜ (5 ≤ s .code) × (s .code < 7) × (comesBefore (styleIn self) namedOnly ≡ true) ⌝ }
         ensures { λ r. ⌜ ((area : List ℕ) → Stepping area self (stepOf s) r) ⌝ }
     {
         if s.code == 5 {
@@ -192,7 +192,7 @@ impl ParametersSpecBuilder {
 
     // A parameter of codes 1 to 3, that is required, optional or defaulted.
     fn add(self, area: &[u8], s: Step) -> Stepped
-        requires { ⌜ (1 ≤ s .code) × (s .code < 4) × (comesBefore (styleOf (self .«current_style»)) noMore ≡ true) ⌝ }
+        requires { ⌜ (1 ≤ s .code) × (s .code < 4) × (comesBefore (styleIn self) noMore ≡ true) ⌝ }
         ensures { λ r. ⌜ Stepping (now (area .entry)) self (stepOf s) r ⌝ }
     {
         let style = self.current_style;
@@ -221,13 +221,13 @@ impl ParametersSpecBuilder {
 
     // `*args`, which takes what positionals are left; following parameters can be filled only by name.
     fn args(self, s: Step) -> Stepped
-        requires { ⌜ (s .code ≡ 6) × (comesBefore (styleOf (self .«current_style»)) namedOnly ≡ true) ⌝ }
+        requires { ⌜ (s .code ≡ 6) × (comesBefore (styleIn self) namedOnly ≡ true) ⌝ }
         ensures { λ r. ⌜ ((area : List ℕ) → Stepping area self (stepOf s) r) ⌝ }
     {
         let style = self.current_style;
         let before = self.params;
-        let i = before.len;
-        if CAPACITY <= i {
+        let index = before.len;
+        if CAPACITY <= index {
             return self.refused(6);
         }
         let kwargs = self.kwargs;
@@ -238,7 +238,7 @@ impl ParametersSpecBuilder {
                 positional_only: self.positional_only,
                 positional: self.positional,
                 current_style: CurrentParameterStyle::NamedOnly,
-                args: Index::At(i),
+                args: Index::At(index),
                 kwargs,
             },
         }
@@ -246,13 +246,13 @@ impl ParametersSpecBuilder {
 
     // `**kwargs`, which takes what names are left; nothing follows it.
     fn kwargs(self, s: Step) -> Stepped
-        requires { ⌜ (s .code ≡ 7) × (comesBefore (styleOf (self .«current_style»)) noMore ≡ true) ⌝ }
+        requires { ⌜ (s .code ≡ 7) × (comesBefore (styleIn self) noMore ≡ true) ⌝ }
         ensures { λ r. ⌜ ((area : List ℕ) → Stepping area self (stepOf s) r) ⌝ }
     {
         let style = self.current_style;
         let before = self.params;
-        let i = before.len;
-        if CAPACITY <= i {
+        let index = before.len;
+        if CAPACITY <= index {
             return self.refused(6);
         }
         let args = self.args;
@@ -264,7 +264,7 @@ impl ParametersSpecBuilder {
                 positional: self.positional,
                 current_style: CurrentParameterStyle::NoMore,
                 args,
-                kwargs: Index::At(i),
+                kwargs: Index::At(index),
             },
         }
     }

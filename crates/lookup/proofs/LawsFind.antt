@@ -1,9 +1,9 @@
 -- Laws of a search for a name, in this order: the first index that passes a test, as a loop asks for it; what each test on a candidate
 -- says; the bytes left to compare. Assumes nothing.
-use mathlib.Core.Path.{_≡_, refl, sym, ap, _∙_}
-use mathlib.Core.Bool.{Bool, true, false, cond, not, _&&_, and-false}
-use mathlib.Core.List.{List, [], _∷_}
-use Prim.Native.Nat.{ℕ, zero, suc, _+_, _-_, _/_, _%_, _<_, _≤_}
+use mathlib.Core.Path.{_≡_, sym, _∙_}
+use mathlib.Core.Bool.{Bool, true, false, and-false}
+use mathlib.Core.List.{List}
+use Prim.Native.Nat.{ℕ, suc, _+_, _-_, _/_, _%_, _<_, _≤_}
 use native.Mathlib.Numerals.{add-one}
 use native.Mathlib.Omega.{arith}
 use lib.Dec.{leb}
@@ -13,7 +13,6 @@ use borrow.Author.Tests.{le-leb, lt-leb}
 use Rattle.rules.specs.Text.{sameBytes, bytesAt, inside, startOf, sizeOf}
 use Rattle.cells.proofs.LawsText.{sameBytes-length, sameBytes-differs, sameBytes-next}
 use Rattle.builder.specs.Params.{mayBeNamed}
-use Rattle.lookup.specs.declared.Finding.{Finding}
 use Rattle.lookup.specs.declared.Finding.the-variants.{At, Unknown}
 use Rattle.lookup.specs.Lookup.{fits, firstAt}
 

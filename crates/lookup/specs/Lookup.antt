@@ -5,6 +5,7 @@ use Prim.Native.Nat.{ℕ, zero, suc, min}
 use lib.ListN.{getD}
 use Rattle.rules.specs.Text.{sameBytes, bytesAt, inside}
 use Rattle.rules.specs.Lookup.{Finding as RuleFinding, at, unknown}
+use Rattle.builder.specs.declared.params.Parameters.{Parameters}
 use Rattle.builder.specs.Params.{mayBeNamed}
 use Rattle.lookup.specs.declared.Finding.{Finding}
 use Rattle.lookup.specs.declared.Finding.the-variants.{At, Unknown}
@@ -30,3 +31,7 @@ firstAt test i (suc count) = cond (test i) (At i) (firstAt test (suc i) count)
 -- a column holds 64 parameters
 unfoldable pub findIn : List ℕ → List ℕ → List ℕ → List ℕ → ℕ → List ℕ → Finding
 findIn area codes styles names len bytes = firstAt (fitsAt area codes styles names bytes) 0 (min len 64)
+
+-- the same over a list's parameters
+abbrev pub findAmong : List ℕ → Parameters → List ℕ → Finding
+findAmong area p bytes = findIn area (p .codes) (p .styles) (p .names) (p .len) bytes

@@ -5,7 +5,7 @@ use builder::params::nameable;
 use builder::spec::ParametersSpec;
 ghost use mathlib.Core.Path.{_≡_};
 ghost use Prim.Native.Nat.{min};
-ghost use Rattle.lookup.specs.Lookup.{findIn};
+ghost use Rattle.lookup.specs.Lookup.{findIn, findAmong};
 
 pub enum Finding {
     At(usize),
@@ -14,7 +14,7 @@ pub enum Finding {
 
 // SymbolMap::get_str, over a finished list and the area that its names lie in.
 pub fn get_str(list: ParametersSpec, area: &[u8], name: &[u8]) -> Finding
-    ensures { λ r. ⌜ r ≡ findIn (now (area .entry)) (list .params .codes) (list .params .styles) (list .params .names) (list .params .len) (now (name .entry)) ⌝ }
+    ensures { λ r. ⌜ r ≡ findAmong (now (area .entry)) (list .params) (now (name .entry)) ⌝ }
 {
     let params = list.params;
     find(

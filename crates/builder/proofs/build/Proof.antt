@@ -1,28 +1,18 @@
-use Rattle.builder.proofs.LawsBuild.{refused-list, ask-1, ask-2, ask-3, ask-4, ask-5, ask-8}
-use borrow.Author.Tests.{not-true, not-false}
+-- `builder::build` meets its contract: each refusal by the questions passed before it, and the list by the end of the last state.
+-- Assumes nothing.
 use mathlib.Core.Path.{sym, _∙_}
+use borrow.Author.Tests.{not-true, not-false}
 use borrow.Author.Needs.{needs}
+use Rattle.builder.proofs.LawsBuild.{refused-list, ask-1, ask-2, ask-3, ask-4, ask-5, ask-8}
 use Rattle.builder.proofs.build.Statement.{statement}
 use Rattle.builder.proofs.build.Tie as tie
-use Rattle.builder.proofs.build.Reads as reads
-use Rattle.builder.proofs.build.Lts as lts
-use Rattle.builder.proofs.record.codes_known.Reads as codes-known-reads
-use Rattle.builder.proofs.record.defaults_right.Reads as defaults-right-reads
-use Rattle.builder.proofs.record.names_inside.Reads as names-inside-reads
-use Rattle.builder.proofs.record.whole_steps.Reads as whole-steps-reads
-use Rattle.builder.proofs.spec.ParametersSpec.refused.Reads as refused-reads
-use Rattle.builder.proofs.spec.ParametersSpecBuilder.finish.Reads as finish-reads
-use Rattle.builder.proofs.take_steps.Reads as take-steps-reads
 
--- src/lib.rt:25:9
 whole-steps-requires : tie.Need-whole-steps-requires
 whole-steps-requires c κs = search needs
 
--- src/lib.rt:26:9
 refused-requires : tie.Need-refused-requires
 refused-requires c κs = search needs
 
--- src/lib.rt:26:9
 returns : tie.Need-returns
 returns c =
     let a = c .before .before .before .before .before .args in
@@ -30,15 +20,12 @@ returns c =
     (ask-1 (a .cells .now) (a .area .now)
     (sym (c .before .before .whole-steps .ensures) ∙ not-true _ (c .before .if1 .taken)))
 
--- src/lib.rt:28:9
 codes-known-requires : tie.Need-codes-known-requires
 codes-known-requires c κs = search needs
 
--- src/lib.rt:29:9
 refused-requires-2 : tie.Need-refused-requires-2
 refused-requires-2 c κs = search needs
 
--- src/lib.rt:29:9
 returns-2 : tie.Need-returns-2
 returns-2 c =
     let a = c .before .before .before .before .before .before .before .args in
@@ -47,15 +34,12 @@ returns-2 c =
     (sym (c .before .before .before .before .whole-steps .ensures) ∙ not-false _ (c .before .before .before .if1 .left))
     (sym (c .before .before .codes-known .ensures) ∙ not-true _ (c .before .if2 .taken)))
 
--- src/lib.rt:31:9
 names-inside-requires : tie.Need-names-inside-requires
 names-inside-requires c κs = search needs
 
--- src/lib.rt:32:9
 refused-requires-3 : tie.Need-refused-requires-3
 refused-requires-3 c κs = search needs
 
--- src/lib.rt:32:9
 returns-3 : tie.Need-returns-3
 returns-3 c =
     let a = c .before .before .before .before .before .before .before .before .before .args in
@@ -65,15 +49,12 @@ returns-3 c =
     (sym (c .before .before .before .before .codes-known .ensures) ∙ not-false _ (c .before .before .before .if2 .left))
     (sym (c .before .before .names-inside .ensures) ∙ not-true _ (c .before .if3 .taken)))
 
--- src/lib.rt:34:9
 defaults-right-requires : tie.Need-defaults-right-requires
 defaults-right-requires c κs = search needs
 
--- src/lib.rt:35:9
 refused-requires-4 : tie.Need-refused-requires-4
 refused-requires-4 c κs = search needs
 
--- src/lib.rt:35:9
 returns-4 : tie.Need-returns-4
 returns-4 c =
     let a = c .before .before .before .before .before .before .before .before .before .before .before .args in
@@ -84,27 +65,21 @@ returns-4 c =
     (sym (c .before .before .before .before .names-inside .ensures) ∙ not-false _ (c .before .before .before .if3 .left))
     (sym (c .before .before .defaults-right .ensures) ∙ not-true _ (c .before .if4 .taken)))
 
--- src/lib.rt:37:9
 take-steps-requires : tie.Need-take-steps-requires
 take-steps-requires c κs = search needs
 
--- src/lib.rt:40:25
 enum-known-answer : tie.Need-enum-known-answer
 enum-known-answer c = search needs
 
--- src/lib.rt:40:38
 refused-requires-5 : tie.Need-refused-requires-5
 refused-requires-5 c κs = search needs
 
--- src/lib.rt:41:25
 enum-told : tie.Need-enum-told
 enum-told c = search needs
 
--- src/lib.rt:41:25
 finish-requires : tie.Need-finish-requires
 finish-requires c κs = search needs
 
--- src/lib.rt:22:1
 returns-5 : tie.Need-returns-5
 returns-5 c =
     let a = c .before .before .before .before .before .before .before .before .before .before .before .before .before .before .before .args in
@@ -116,7 +91,6 @@ returns-5 c =
     (sym (c .before .before .before .before .before .before .defaults-right .ensures) ∙ not-false _ (c .before .before .before .before .before .if4 .left))
     (c .before .before .before .before .take-steps .result) (c .before .before .before .before .take-steps .ensures) _ (c .before .before .answer .given .1))
 
--- src/lib.rt:22:1
 returns-6 : tie.Need-returns-6
 returns-6 c =
     let a = c .before .before .before .before .before .before .before .before .before .before .before .before .before .before .args in

@@ -1,19 +1,18 @@
+-- `lookup::find` meets its contract. The outer invariant: the finding is that of the candidates that are left; the inner: the candidate's name is
+-- these bytes where the bytes that are left are. The measures are how many candidates, and how many bytes, are left.
+-- Assumes nothing.
 use mathlib.Core.Path.{_≡_, refl, sym, _∙_}
-use Prim.Native.Nat.{_+_, _-_, _/_, _%_, _≤_}
+use Prim.Native.Nat.{_-_, _/_, _%_, _≤_}
 use native.Mathlib.Nat.{sub-zero}
 use native.Mathlib.Omega.{arith}
 use lib.ListN.{take, drop, getD}
 use borrow.Author.Tests.{not-true, not-false}
+use borrow.Author.Needs.{needs}
 use Rattle.rules.specs.Text.{sameBytes}
 use Rattle.lookup.specs.Lookup.{fitsAt, firstAt, findIn}
 use Rattle.lookup.proofs.LawsFind.{firstAt-hit, firstAt-miss, firstAt-end, fits-style, fits-start, fits-end, fits-size, fits-bytes, bytes-differ, bytes-next, bytes-end}
-use borrow.Author.Needs.{needs}
 use Rattle.lookup.proofs.find.Statement.{statement}
 use Rattle.lookup.proofs.find.Tie as tie
-use Rattle.lookup.proofs.find.Reads as reads
-use Rattle.lookup.proofs.find.Lts as lts
-use Rattle.builder.proofs.params.nameable.Reads as nameable-reads
-use Rattle.lookup.proofs.held.Reads as held-reads
 
 abbrev Inv-loop : tie.InvT-loop
 Inv-loop area codes styles names len name count i at start size j₀ j =
@@ -31,46 +30,36 @@ Inv-candidates area codes styles names len name count i₀ i =
 abbrev μ-candidates : tie.MeasureT-candidates
 μ-candidates area codes styles names len name count i₀ i = count - i
 
--- src/lib.rt:29:9
 held-requires : tie.Need-held-requires Inv-loop μ-loop Inv-candidates μ-candidates
 held-requires c κs = search needs
 
--- src/lib.rt:31:5
 candidates-holds : tie.Need-candidates-holds Inv-loop μ-loop Inv-candidates μ-candidates
 unfolding findIn
 candidates-holds c = (search needs, rw (sub-zero, c .held .ensures))
 
--- src/lib.rt:33:9
 add-i : tie.Need-add-i Inv-loop μ-loop Inv-candidates μ-candidates
 add-i c = search needs
 
--- src/lib.rt:34:22
 mul-nameable : tie.Need-mul-nameable Inv-loop μ-loop Inv-candidates μ-candidates
 mul-nameable c = search needs
 
--- src/lib.rt:34:22
 element-copy-out-nameable :
     tie.Need-element-copy-out-nameable Inv-loop μ-loop Inv-candidates μ-candidates
 element-copy-out-nameable c = omega (arith, c .before .before .held .ensures)
 
--- src/lib.rt:34:33
 mul-nameable-2 : tie.Need-mul-nameable-2 Inv-loop μ-loop Inv-candidates μ-candidates
 mul-nameable-2 c = search needs
 
--- src/lib.rt:34:33
 element-copy-out-nameable-2 :
     tie.Need-element-copy-out-nameable-2 Inv-loop μ-loop Inv-candidates μ-candidates
 element-copy-out-nameable-2 c = omega (arith, c .before .before .before .held .ensures)
 
--- src/lib.rt:34:13
 nameable-requires : tie.Need-nameable-requires Inv-loop μ-loop Inv-candidates μ-candidates
 nameable-requires c κs = search needs
 
--- src/lib.rt:31:5
 candidates-less : tie.Need-candidates-less Inv-loop μ-loop Inv-candidates μ-candidates
 candidates-less c = search needs
 
--- src/lib.rt:31:5
 candidates-again : tie.Need-candidates-again Inv-loop μ-loop Inv-candidates μ-candidates
 unfolding fitsAt
 candidates-again c =
@@ -82,28 +71,22 @@ candidates-again c =
           (fits-style (a .area .now) (a .name .now) (getD (a .codes .now) i 0) (getD (a .styles .now) i 0) (getD (a .names .now) i 0) (sym (c .before .nameable .ensures) ∙ not-true _ (c .if1 .taken))),
     )
 
--- src/lib.rt:37:22
 mul-start : tie.Need-mul-start Inv-loop μ-loop Inv-candidates μ-candidates
 mul-start c = search needs
 
--- src/lib.rt:37:22
 element-copy-out-start :
     tie.Need-element-copy-out-start Inv-loop μ-loop Inv-candidates μ-candidates
 element-copy-out-start c = omega (arith, c .before .before .before .before .before .before .held .ensures)
 
--- src/lib.rt:38:21
 mul-size : tie.Need-mul-size Inv-loop μ-loop Inv-candidates μ-candidates
 mul-size c = search needs
 
--- src/lib.rt:38:21
 element-copy-out-size : tie.Need-element-copy-out-size Inv-loop μ-loop Inv-candidates μ-candidates
 element-copy-out-size c = search needs
 
--- src/lib.rt:31:5
 candidates-less-2 : tie.Need-candidates-less-2 Inv-loop μ-loop Inv-candidates μ-candidates
 candidates-less-2 c = search needs
 
--- src/lib.rt:31:5
 candidates-again-2 : tie.Need-candidates-again-2 Inv-loop μ-loop Inv-candidates μ-candidates
 unfolding fitsAt
 candidates-again-2 c =
@@ -115,15 +98,12 @@ candidates-again-2 c =
           (fits-start (a .area .now) (a .name .now) (getD (a .codes .now) i 0) (getD (a .styles .now) i 0) (getD (a .names .now) i 0) (c .if2 .taken)),
     )
 
--- src/lib.rt:42:25
 add-if3 : tie.Need-add-if3 Inv-loop μ-loop Inv-candidates μ-candidates
 add-if3 c = search needs
 
--- src/lib.rt:31:5
 candidates-less-3 : tie.Need-candidates-less-3 Inv-loop μ-loop Inv-candidates μ-candidates
 candidates-less-3 c = search needs
 
--- src/lib.rt:31:5
 candidates-again-3 : tie.Need-candidates-again-3 Inv-loop μ-loop Inv-candidates μ-candidates
 unfolding fitsAt
 candidates-again-3 c =
@@ -135,11 +115,9 @@ candidates-again-3 c =
           (fits-end (a .area .now) (a .name .now) (getD (a .codes .now) i 0) (getD (a .styles .now) i 0) (getD (a .names .now) i 0) (c .if3 .taken)),
     )
 
--- src/lib.rt:31:5
 candidates-less-4 : tie.Need-candidates-less-4 Inv-loop μ-loop Inv-candidates μ-candidates
 candidates-less-4 c = search needs
 
--- src/lib.rt:31:5
 candidates-again-4 : tie.Need-candidates-again-4 Inv-loop μ-loop Inv-candidates μ-candidates
 unfolding fitsAt
 candidates-again-4 c =
@@ -151,28 +129,22 @@ candidates-again-4 c =
           (fits-size (a .area .now) (a .name .now) (getD (a .codes .now) i 0) (getD (a .styles .now) i 0) (getD (a .names .now) i 0) (sym (c .before .before .before .before .before .before .nameable .ensures) ∙ not-false _ (c .before .before .before .before .before .if1 .left)) (c .before .before .if2 .left) (c .before .if3 .left) (c .if4 .taken)),
     )
 
--- src/lib.rt:49:9
 loop-holds : tie.Need-loop-holds Inv-loop μ-loop Inv-candidates μ-candidates
 loop-holds c = (search needs, refl)
 
--- src/lib.rt:50:16
 shared-slice-read-if5 : tie.Need-shared-slice-read-if5 Inv-loop μ-loop Inv-candidates μ-candidates
 shared-slice-read-if5 c = search needs
 
--- src/lib.rt:50:32
 add-if5 : tie.Need-add-if5 Inv-loop μ-loop Inv-candidates μ-candidates
 add-if5 c = search needs
 
--- src/lib.rt:50:27
 shared-slice-read-if5-2 :
     tie.Need-shared-slice-read-if5-2 Inv-loop μ-loop Inv-candidates μ-candidates
 shared-slice-read-if5-2 c = omega (arith, c .before .before .before .before .before .if3 .left, c .before .before .loop-test .taken)
 
--- src/lib.rt:31:5
 candidates-less-5 : tie.Need-candidates-less-5 Inv-loop μ-loop Inv-candidates μ-candidates
 candidates-less-5 c = search needs
 
--- src/lib.rt:31:5
 candidates-again-5 : tie.Need-candidates-again-5 Inv-loop μ-loop Inv-candidates μ-candidates
 unfolding fitsAt
 candidates-again-5 c =
@@ -186,15 +158,12 @@ candidates-again-5 c =
           ∙ bytes-differ (a .area .now) (a .name .now) (getD (a .names .now) i 0 / 256) (getD (a .names .now) i 0 % 256) (c .before .before .before .before .loop .j) (c .before .before .before .before .before .before .if3 .left) (c .before .before .before .before .before .if4 .left) (c .before .before .before .loop-test .taken) (c .if5 .taken)),
     )
 
--- src/lib.rt:53:13
 add-j : tie.Need-add-j Inv-loop μ-loop Inv-candidates μ-candidates
 add-j c = search needs
 
--- src/lib.rt:49:9
 loop-less : tie.Need-loop-less Inv-loop μ-loop Inv-candidates μ-candidates
 loop-less c = search needs
 
--- src/lib.rt:49:9
 loop-again : tie.Need-loop-again Inv-loop μ-loop Inv-candidates μ-candidates
 loop-again c =
     let a = c .before .before .before .before .before .before .before .before .before .before .before .before .before .before .before .before .before .before .before .args in
@@ -204,7 +173,6 @@ loop-again c =
           ∙ bytes-next (a .area .now) (a .name .now) (getD (a .names .now) i 0 / 256) (getD (a .names .now) i 0 % 256) (c .before .before .before .before .loop .j) (c .before .before .before .before .before .before .if3 .left) (c .before .before .before .before .before .if4 .left) (c .before .before .before .loop-test .taken) (c .if5 .left),
     )
 
--- src/lib.rt:55:9
 returns : tie.Need-returns Inv-loop μ-loop Inv-candidates μ-candidates
 unfolding fitsAt
 returns c =
@@ -217,7 +185,6 @@ returns c =
     ∙ c .before .loop .inv .1
     ∙ bytes-end (a .area .now) (a .name .now) (getD (a .names .now) i 0 / 256) (getD (a .names .now) i 0 % 256) (c .before .loop .j) (c .before .before .before .if3 .left) (c .before .before .if4 .left) (c .loop-test .left)))
 
--- src/lib.rt:26:1
 returns-2 : tie.Need-returns-2 Inv-loop μ-loop Inv-candidates μ-candidates
 returns-2 c =
     let a = c .before .before .before .before .before .args in

@@ -6,8 +6,8 @@ use native.Mathlib.Nat.{add-sub-cancel-left, le-of-lt}
 use native.Mathlib.Omega.{arith}
 use lib.ListN.{length, drop, length-drop, drop-of-length-le}
 use lib.Seq.{take-all, take-nil}
-use Rattle.rules.specs.Text.{bytesAt, startOf, sizeOf}
 use borrow.Author.Needs.{needs}
+use Rattle.rules.specs.Text.{bytesAt, startOf, sizeOf}
 use Rattle.builder.proofs.params.bytes_at.Statement.{statement}
 use Rattle.builder.proofs.params.bytes_at.Tie as tie
 

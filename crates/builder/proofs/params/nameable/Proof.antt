@@ -1,6 +1,6 @@
 -- `builder::params::nameable` meets its contract: each answer by the ranges in which the code and the style's number lie.
 -- Assumes nothing.
-use mathlib.Core.Path.{_≡_, sym, _∙_}
+use mathlib.Core.Path.{sym, _∙_}
 use mathlib.Core.Logic.{inl, inr}
 use Rattle.builder.proofs.LawsParams.{mayBeNamed-below, mayBeNamed-above, mayBeNamed-plain, takesName-number, takesName-other}
 use Rattle.builder.proofs.params.nameable.Statement.{statement}

@@ -1,21 +1,19 @@
-use Rattle.builder.specs.Params.{stepOf}
+-- `builder::record::defaults_right` meets its contract. The loop's invariant: question 4 of the record is that of the steps that are left.
+-- The measure is how many are left.
+-- Assumes nothing.
 use mathlib.Core.Path.{_≡_}
 use Prim.Native.Nat.{_≤_, _-_}
+use borrow.Author.Needs.{needs}
 use Rattle.rules.specs.Listing.{all}
 use Rattle.rules.specs.ParameterRecord.{readParameters}
 use Rattle.rules.specs.Parameters.{act}
 use Rattle.rules.specs.ParameterQuestions.{usesRight, defaultsRight}
+use Rattle.builder.specs.Params.{stepOf}
 use Rattle.builder.specs.Listed.{listed}
 use Rattle.builder.specs.Record.{stepAt}
 use Rattle.builder.proofs.LawsRecord.{each-start, each-stop, each-next, each-end}
-use borrow.Author.Needs.{needs}
 use Rattle.builder.proofs.record.defaults_right.Statement.{statement}
 use Rattle.builder.proofs.record.defaults_right.Tie as tie
-use Rattle.builder.proofs.record.defaults_right.Reads as reads
-use Rattle.builder.proofs.record.defaults_right.Lts as lts
-use Rattle.builder.proofs.params.Step.uses_right.Reads as uses-right-reads
-use Rattle.builder.proofs.record.step_at.Reads as step-at-reads
-use Rattle.builder.proofs.record.step_count.Reads as step-count-reads
 
 abbrev Inv-loop : tie.InvT-loop
 Inv-loop cells area m i₀ i =
@@ -25,42 +23,33 @@ Inv-loop cells area m i₀ i =
 abbrev μ-loop : tie.MeasureT-loop
 μ-loop cells area m i₀ i = m - i
 
--- src/record.rt:70:9
 step-count-requires : tie.Need-step-count-requires Inv-loop μ-loop
 step-count-requires c κs = search needs
 
--- src/record.rt:72:5
 loop-holds : tie.Need-loop-holds Inv-loop μ-loop
 unfolding defaultsRight stepOf
 loop-holds c = (search needs, each-start (λ t. usesRight (c .before .before .before .args .area .now) (act t) (t .name) (t .default)) (c .before .before .before .args .cells .now) (c .step-count .result) (c .step-count .ensures))
 
--- src/record.rt:73:13
 step-at-requires : tie.Need-step-at-requires Inv-loop μ-loop
 step-at-requires c κs = rw (← c .before .before .step-count .ensures) (c .loop-test .taken)
 
--- src/record.rt:73:13
 uses-right-requires : tie.Need-uses-right-requires Inv-loop μ-loop
 uses-right-requires c κs = search needs
 
--- src/record.rt:74:13
 returns : tie.Need-returns Inv-loop μ-loop
 unfolding defaultsRight stepOf
 returns c = each-stop (λ t. usesRight (c .before .before .before .before .before .before .before .before .args .area .now) (act t) (t .name) (t .default)) (c .before .before .before .before .before .before .before .before .args .cells .now) (c .before .before .before .before .before .step-count .result) (c .before .before .before .before .loop .i) (c .before .before .before .before .loop .inv .1) (c .before .before .before .loop-test .taken) (c .before .before .step-at .ensures) (c .before .uses-right .ensures) (c .if1 .taken)
 
--- src/record.rt:76:9
 add-i : tie.Need-add-i Inv-loop μ-loop
 add-i c = search needs
 
--- src/record.rt:72:5
 loop-less : tie.Need-loop-less Inv-loop μ-loop
 loop-less c = search needs
 
--- src/record.rt:72:5
 loop-again : tie.Need-loop-again Inv-loop μ-loop
 unfolding stepOf
 loop-again c = (search needs, each-next (λ t. usesRight (c .before .before .before .before .before .before .before .before .args .area .now) (act t) (t .name) (t .default)) (c .before .before .before .before .before .before .before .before .args .cells .now) (c .before .before .before .before .before .step-count .result) (c .before .before .before .before .loop .i) (c .before .before .before .before .loop .inv .1) (c .before .before .before .loop-test .taken) (c .before .before .step-at .ensures) (c .before .uses-right .ensures) (c .if1 .left))
 
--- src/record.rt:67:1
 returns-2 : tie.Need-returns-2 Inv-loop μ-loop
 unfolding defaultsRight stepOf
 returns-2 c = each-end (λ t. usesRight (c .before .before .before .before .before .args .area .now) (act t) (t .name) (t .default)) (c .before .before .before .before .before .args .cells .now) (c .before .before .step-count .result) (c .before .loop .i) (c .before .loop .inv .1) (c .loop-test .left)

@@ -1,29 +1,24 @@
-use Rattle.builder.proofs.LawsRecord.{cond-true, cond-false, value-or-not}
-use Rattle.builder.specs.Record.{valueOf}
-use Rattle.cells.specs.declared.value.ReadValue.the-variants.{Is, Not}
-use Rattle.cells.specs.Value.{readDefault, valueAs}
-use Rattle.rules.specs.Value.{wellFormedDefault}
+-- `builder::record::is_default` meets its contract: reading answers a value where the test holds.
+-- Assumes nothing.
 use mathlib.Core.Path.{sym, _∙_}
 use borrow.Author.Needs.{needs}
+use Rattle.rules.specs.Value.{wellFormedDefault}
+use Rattle.cells.specs.declared.value.ReadValue.the-variants.{Is, Not}
+use Rattle.cells.specs.Value.{readDefault, valueAs}
+use Rattle.builder.specs.Record.{valueOf}
+use Rattle.builder.proofs.LawsRecord.{cond-true, cond-false, value-or-not}
 use Rattle.builder.proofs.record.is_default.Statement.{statement}
 use Rattle.builder.proofs.record.is_default.Tie as tie
-use Rattle.builder.proofs.record.is_default.Reads as reads
-use Rattle.builder.proofs.record.is_default.Lts as lts
-use Rattle.cells.proofs.value.read_default.Reads as read-default-reads
 
--- src/record.rt:119:11
 read-default-requires : tie.Need-read-default-requires
 read-default-requires c κs = search needs
 
--- src/record.rt:120:29
 enum-told : tie.Need-enum-told
 enum-told c = search needs
 
--- src/record.rt:121:27
 enum-told-2 : tie.Need-enum-told-2
 enum-told-2 c = search needs
 
--- src/record.rt:116:1
 returns : tie.Need-returns
 unfolding readDefault
 returns c =
@@ -33,7 +28,6 @@ returns c =
     cond-true (wellFormedDefault (a .area .now) (valueOf (a .kind) (a .payload))) (Is (valueAs (a .kind) (a .payload))) Not
     (λ e. value-or-not (sym told ∙ read ∙ e))
 
--- src/record.rt:116:1
 returns-2 : tie.Need-returns-2
 unfolding readDefault
 returns-2 c =

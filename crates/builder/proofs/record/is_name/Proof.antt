@@ -1,28 +1,23 @@
-use Rattle.builder.proofs.LawsRecord.{cond-true, cond-false, text-or-not}
-use Rattle.cells.specs.declared.text.ReadText.the-variants.{Is, Not}
-use Rattle.cells.specs.Text.{readText, textOf}
-use Rattle.rules.specs.Text.{isText}
+-- `builder::record::is_name` meets its contract: reading answers a text where the test holds.
+-- Assumes nothing.
 use mathlib.Core.Path.{sym, _∙_}
 use borrow.Author.Needs.{needs}
+use Rattle.rules.specs.Text.{isText}
+use Rattle.cells.specs.declared.text.ReadText.the-variants.{Is, Not}
+use Rattle.cells.specs.Text.{readText, textOf}
+use Rattle.builder.proofs.LawsRecord.{cond-true, cond-false, text-or-not}
 use Rattle.builder.proofs.record.is_name.Statement.{statement}
 use Rattle.builder.proofs.record.is_name.Tie as tie
-use Rattle.builder.proofs.record.is_name.Reads as reads
-use Rattle.builder.proofs.record.is_name.Lts as lts
-use Rattle.cells.proofs.text.read_text.Reads as read-text-reads
 
--- src/record.rt:109:11
 read-text-requires : tie.Need-read-text-requires
 read-text-requires c κs = search needs
 
--- src/record.rt:110:28
 enum-told : tie.Need-enum-told
 enum-told c = search needs
 
--- src/record.rt:111:26
 enum-told-2 : tie.Need-enum-told-2
 enum-told-2 c = search needs
 
--- src/record.rt:106:1
 returns : tie.Need-returns
 unfolding readText
 returns c =
@@ -32,7 +27,6 @@ returns c =
     cond-true (isText 1 (a .area .now) (a .payload)) (Is (textOf (a .payload))) Not
     (λ e. text-or-not (sym told ∙ read ∙ e))
 
--- src/record.rt:106:1
 returns-2 : tie.Need-returns-2
 unfolding readText
 returns-2 c =

@@ -1,22 +1,20 @@
+-- `builder::params::Parameters::known` meets its contract. The loop's invariant: the answer is the answer for the parameters that are left.
+-- The measure is how many are left.
+-- Assumes nothing.
 use mathlib.Core.Path.{_≡_, sym, ap, _∙_}
 use mathlib.Core.Logic.{⊎-elim}
 use mathlib.Core.Bool.{false}
 use Prim.Native.Nat.{_≤_, _-_}
 use native.Mathlib.Nat.{sub-zero}
+use borrow.Author.Needs.{needs}
 use Rattle.rules.specs.Listing.{any}
 use Rattle.rules.specs.Lookup.{names, known}
 use Rattle.builder.specs.Listed.{listed}
 use Rattle.builder.specs.Params.{parameterAt, parametersIn}
 use Rattle.builder.proofs.LawsListed.{listed-end, any-hit, any-miss}
 use Rattle.builder.proofs.LawsParams.{names-bytes, names-style}
-use borrow.Author.Needs.{needs}
 use Rattle.builder.proofs.params.Parameters.known.Statement.{statement}
 use Rattle.builder.proofs.params.Parameters.known.Tie as tie
-use Rattle.builder.proofs.params.Parameters.known.Reads as reads
-use Rattle.builder.proofs.params.Parameters.known.Lts as lts
-use Rattle.builder.proofs.params.bytes_at.Reads as bytes-at-reads
-use Rattle.builder.proofs.params.nameable.Reads as nameable-reads
-use Rattle.cells.proofs.text.same.Reads as same-reads
 
 abbrev Inv-loop : tie.InvT-loop
 Inv-loop area bytes self i₀ i =
@@ -26,48 +24,37 @@ Inv-loop area bytes self i₀ i =
 abbrev μ-loop : tie.MeasureT-loop
 μ-loop area bytes self i₀ i = self .len - i
 
--- src/params.rt:135:9
 loop-holds : tie.Need-loop-holds Inv-loop μ-loop
 unfolding known parametersIn
 loop-holds c = (search needs, rw sub-zero)
 
--- src/params.rt:136:25
 mul-nameable : tie.Need-mul-nameable Inv-loop μ-loop
 mul-nameable c = search needs
 
--- src/params.rt:136:25
 element-copy-out-nameable : tie.Need-element-copy-out-nameable Inv-loop μ-loop
 element-copy-out-nameable c = search needs
 
--- src/params.rt:136:40
 mul-nameable-2 : tie.Need-mul-nameable-2 Inv-loop μ-loop
 mul-nameable-2 c = search needs
 
--- src/params.rt:136:40
 element-copy-out-nameable-2 : tie.Need-element-copy-out-nameable-2 Inv-loop μ-loop
 element-copy-out-nameable-2 c = search needs
 
--- src/params.rt:136:16
 nameable-requires : tie.Need-nameable-requires Inv-loop μ-loop
 nameable-requires c κs = search needs
 
--- src/params.rt:137:28
 mul-name : tie.Need-mul-name Inv-loop μ-loop
 mul-name c = search needs
 
--- src/params.rt:137:28
 element-copy-out-name : tie.Need-element-copy-out-name Inv-loop μ-loop
 element-copy-out-name c = search needs
 
--- src/params.rt:138:32
 bytes-at-requires : tie.Need-bytes-at-requires Inv-loop μ-loop
 bytes-at-requires c κs = search needs
 
--- src/params.rt:138:20
 same-requires : tie.Need-same-requires Inv-loop μ-loop
 same-requires c κs = search needs
 
--- src/params.rt:139:21
 returns : tie.Need-returns Inv-loop μ-loop
 returns c =
     let s = c .before .before .before .before .before in
@@ -79,15 +66,12 @@ returns c =
     (names-bytes (a .area .now) (a .bytes .now) (a .t1) (at .i) (s .nameable .ensures) (c .before .before .before .before .if1 .taken) (c .before .before .bytes-at .ensures) (c .before .same .ensures)
     ∙ c .if2 .taken))
 
--- src/params.rt:142:13
 add-i : tie.Need-add-i Inv-loop μ-loop
 add-i c = search needs
 
--- src/params.rt:135:9
 loop-less : tie.Need-loop-less Inv-loop μ-loop
 loop-less c = search needs
 
--- src/params.rt:135:9
 loop-again : tie.Need-loop-again Inv-loop μ-loop
 loop-again c =
     let at = c .before .before .before .before .before .loop in
@@ -102,7 +86,6 @@ loop-again c =
           ∙ any-miss (names (a .bytes .now)) (parameterAt (a .area .now) (a .t1)) (at .i) (a .t1 .len) (c .before .before .before .before .loop-test .taken) miss,
     )
 
--- src/params.rt:130:5
 returns-2 : tie.Need-returns-2 Inv-loop μ-loop
 returns-2 c =
     let a = c .before .before .before .before .args in

@@ -1,69 +1,51 @@
-use mathlib.Core.Path.{_≡_, refl, ap, _∙_}
-use Rattle.builder.proofs.LawsParams.{Room, length-held, stored-list, styleFor-rank}
-use mathlib.Core.Path.{_≡_, refl, ap, _∙_}
-use Rattle.builder.proofs.LawsParams.{Room, stored-list, styleFor-rank}
-use Rattle.builder.specs.Params.{styleOf, stepOf, parameterOf}
-use Rattle.rules.specs.Parameters.{rank}
-use lib.ListN.{length}
+-- `builder::params::Parameters::push` meets its contract: every column has 64 entries, so each stores its own.
+-- Assumes nothing.
+use mathlib.Core.Path.{_≡_, refl}
 use native.Mathlib.Omega.{arith}
-use Prim.Native.Nat.{_<_}
-use mathlib.Core.Path.{_≡_, refl, ap, _∙_}
+use lib.ListN.{length}
 use borrow.Author.Needs.{needs}
+use Rattle.builder.specs.Params.{styleOf, stepOf, parameterOf}
+use Rattle.builder.proofs.LawsParams.{Room, length-held, stored-list, styleFor-rank}
+use Rattle.builder.proofs.LawsParams.{Room, stored-list, styleFor-rank}
 use Rattle.builder.proofs.params.Parameters.push.Statement.{statement}
 use Rattle.builder.proofs.params.Parameters.push.Tie as tie
-use Rattle.builder.proofs.params.Parameters.push.Reads as reads
-use Rattle.builder.proofs.params.Parameters.push.Lts as lts
-use Rattle.builder.proofs.params.CurrentParameterStyle.number.Reads as number-reads
 
--- src/params.rt:120:9
 mul-self : tie.Need-mul-self
 mul-self c = search needs
 
--- src/params.rt:120:9
 element-write-self : tie.Need-element-write-self
 element-write-self c = search needs
 
--- src/params.rt:121:27
 number-requires : tie.Need-number-requires
 number-requires c κs = search needs
 
--- src/params.rt:121:9
 mul-self-2 : tie.Need-mul-self-2
 mul-self-2 c = search needs
 
--- src/params.rt:121:9
 element-write-self-2 : tie.Need-element-write-self-2
 element-write-self-2 c = search needs
 
--- src/params.rt:122:9
 mul-self-3 : tie.Need-mul-self-3
 mul-self-3 c = search needs
 
--- src/params.rt:122:9
 element-write-self-3 : tie.Need-element-write-self-3
 element-write-self-3 c = search needs
 
--- src/params.rt:123:9
 mul-self-4 : tie.Need-mul-self-4
 mul-self-4 c = search needs
 
--- src/params.rt:123:9
 element-write-self-4 : tie.Need-element-write-self-4
 element-write-self-4 c = search needs
 
--- src/params.rt:124:9
 mul-self-5 : tie.Need-mul-self-5
 mul-self-5 c = search needs
 
--- src/params.rt:124:9
 element-write-self-5 : tie.Need-element-write-self-5
 element-write-self-5 c = search needs
 
--- src/params.rt:125:20
 add-self : tie.Need-add-self
 add-self c = search needs
 
--- src/params.rt:115:5
 returns : tie.Need-returns
 unfolding stepOf parameterOf
 returns c =

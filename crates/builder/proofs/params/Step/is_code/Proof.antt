@@ -1,20 +1,16 @@
-use Rattle.builder.proofs.LawsRecord.{isCode-in, isCode-below, isCode-above}
+-- `builder::params::Step::is_code` meets its contract, range by range.
+-- Assumes nothing.
 use mathlib.Core.Path.{sym}
-use borrow.Author.Needs.{needs}
+use Rattle.builder.proofs.LawsRecord.{isCode-in, isCode-below, isCode-above}
 use Rattle.builder.proofs.params.Step.is_code.Statement.{statement}
 use Rattle.builder.proofs.params.Step.is_code.Tie as tie
-use Rattle.builder.proofs.params.Step.is_code.Reads as reads
-use Rattle.builder.proofs.params.Step.is_code.Lts as lts
 
--- src/record.rt:126:5
 returns : tie.Need-returns
 returns c = sym (isCode-in (c .before .before .args .self) (c .before .if1 .left) (c .if2 .taken))
 
--- src/record.rt:126:5
 returns-2 : tie.Need-returns-2
 returns-2 c = sym (isCode-below (c .before .args .self) (c .if1 .taken))
 
--- src/record.rt:126:5
 returns-3 : tie.Need-returns-3
 returns-3 c = sym (isCode-above (c .before .before .args .self) (c .if2 .left))
 

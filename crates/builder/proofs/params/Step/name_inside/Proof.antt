@@ -1,27 +1,22 @@
-use Rattle.builder.proofs.LawsRecord.{stepName-in, stepName-below, stepName-above}
+-- `builder::params::Step::name_inside` meets its contract, range by range.
+-- Assumes nothing.
 use mathlib.Core.Path.{sym, _∙_}
 use borrow.Author.Needs.{needs}
+use Rattle.builder.proofs.LawsRecord.{stepName-in, stepName-below, stepName-above}
 use Rattle.builder.proofs.params.Step.name_inside.Statement.{statement}
 use Rattle.builder.proofs.params.Step.name_inside.Tie as tie
-use Rattle.builder.proofs.params.Step.name_inside.Reads as reads
-use Rattle.builder.proofs.params.Step.name_inside.Lts as lts
-use Rattle.builder.proofs.record.is_name.Reads as is-name-reads
 
--- src/record.rt:142:22
 is-name-requires : tie.Need-is-name-requires
 is-name-requires c κs = search needs
 
--- src/record.rt:137:5
 returns : tie.Need-returns
 returns c =
     let a = c .before .before .before .before .args in
     c .is-name .ensures ∙ sym (stepName-in (a .self) (a .area .now) (c .before .before .if1 .left) (c .before .if2 .taken))
 
--- src/record.rt:137:5
 returns-2 : tie.Need-returns-2
 returns-2 c = sym (stepName-below (c .before .before .args .self) (c .before .before .args .area .now) (c .if1 .taken))
 
--- src/record.rt:137:5
 returns-3 : tie.Need-returns-3
 returns-3 c =
     let a = c .before .before .before .args in

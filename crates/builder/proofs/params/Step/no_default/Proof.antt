@@ -1,18 +1,15 @@
-use Rattle.builder.specs.Params.{stepOf}
-use Rattle.rules.specs.ParameterQuestions.{isZero}
+-- `builder::params::Step::no_default` meets its contract: both cells are compared with 0.
+-- Assumes nothing.
 use borrow.Author.Tests.{eq-eqb, ne-eqb}
-use borrow.Author.Needs.{needs}
+use Rattle.rules.specs.ParameterQuestions.{isZero}
+use Rattle.builder.specs.Params.{stepOf}
 use Rattle.builder.proofs.params.Step.no_default.Statement.{statement}
 use Rattle.builder.proofs.params.Step.no_default.Tie as tie
-use Rattle.builder.proofs.params.Step.no_default.Reads as reads
-use Rattle.builder.proofs.params.Step.no_default.Lts as lts
 
--- src/record.rt:167:13
 returns : tie.Need-returns
 unfolding isZero stepOf
 returns c = rw (ne-eqb (c .before .before .args .self .«default_kind») 0 (c .if1 .taken))
 
--- src/record.rt:163:5
 returns-2 : tie.Need-returns-2
 unfolding isZero stepOf
 returns-2 c = rw (eq-eqb (c .before .before .before .args .self .«default_kind») 0 (c .before .if1 .left))

@@ -1,25 +1,20 @@
-use Rattle.builder.proofs.LawsRecord.{uses-2, uses-3, uses-7, uses-below, uses-above}
-use Rattle.builder.specs.Params.{stepOf}
-use borrow.Author.Tests.{eq-eqb, ne-eqb}
-use native.Mathlib.Omega.{arith}
+-- `builder::params::Step::uses_right` meets its contract, range by range.
+-- Assumes nothing.
 use mathlib.Core.Path.{sym, _∙_}
+use native.Mathlib.Omega.{arith}
+use borrow.Author.Tests.{eq-eqb, ne-eqb}
 use borrow.Author.Needs.{needs}
+use Rattle.builder.specs.Params.{stepOf}
+use Rattle.builder.proofs.LawsRecord.{uses-2, uses-3, uses-7, uses-below, uses-above}
 use Rattle.builder.proofs.params.Step.uses_right.Statement.{statement}
 use Rattle.builder.proofs.params.Step.uses_right.Tie as tie
-use Rattle.builder.proofs.params.Step.uses_right.Reads as reads
-use Rattle.builder.proofs.params.Step.uses_right.Lts as lts
-use Rattle.builder.proofs.params.Step.no_default.Reads as no-default-reads
-use Rattle.builder.proofs.record.is_default.Reads as is-default-reads
 
--- src/record.rt:152:18
 is-default-requires : tie.Need-is-default-requires
 is-default-requires c κs = search needs
 
--- src/record.rt:151:22
 no-default-requires : tie.Need-no-default-requires
 no-default-requires c κs = search needs
 
--- src/record.rt:155:21
 returns : tie.Need-returns
 returns c =
     let a = c .before .before .before .before .before .before .before .args in
@@ -28,24 +23,20 @@ returns c =
     (uses-7 (a .self) (a .area .now) (omega arith) (c .before .before .if3 .taken)
     ∙ rw (ne-eqb (a .self .name) 0 (c .if4 .taken)))
 
--- src/record.rt:157:17
 no-default-requires-2 : tie.Need-no-default-requires-2
 no-default-requires-2 c κs = search needs
 
--- src/record.rt:146:5
 returns-2 : tie.Need-returns-2
 unfolding stepOf
 returns-2 c =
     let a = c .before .before .before .args in
     c .is-default .ensures ∙ sym (uses-3 (a .self) (a .area .now) (c .before .match .keys1))
 
--- src/record.rt:146:5
 returns-3 : tie.Need-returns-3
 returns-3 c =
     let a = c .before .before .before .before .before .args in
     c .no-default .ensures ∙ sym (uses-2 (a .self) (a .area .now) (c .before .before .if1 .left) (c .before .if2 .taken))
 
--- src/record.rt:146:5
 returns-4 : tie.Need-returns-4
 returns-4 c =
     let a = c .before .before .before .before .before .before .before .before .args in
@@ -55,13 +46,11 @@ returns-4 c =
     (uses-7 (a .self) (a .area .now) (omega arith) (c .before .before .before .if3 .taken)
     ∙ rw (eq-eqb (a .self .name) 0 (c .before .if4 .left)))
 
--- src/record.rt:146:5
 returns-5 : tie.Need-returns-5
 returns-5 c =
     let a = c .before .before .before .args in
     sym (uses-below (a .self) (a .area .now) (c .if1 .taken))
 
--- src/record.rt:146:5
 returns-6 : tie.Need-returns-6
 returns-6 c =
     let a = c .before .before .before .before .before .args in

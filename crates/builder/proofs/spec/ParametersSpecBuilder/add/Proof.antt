@@ -1,26 +1,18 @@
+-- `builder::spec::ParametersSpecBuilder::add` meets its contract: 6, 7, and a plain parameter under the style that stays.
+-- Assumes nothing.
+use mathlib.Core.Path.{refl, sym, _∙_}
 use borrow.Author.Tests.{not-true, not-false}
-use Rattle.builder.proofs.LawsSpec.{act-plain, kind-plain, mayStand-plain, adding-6, adding-7, adding-plain}
-use Rattle.builder.specs.Params.{styleOf, stepOf, kindFor}
-use Rattle.rules.specs.Parameters.{ParameterKind, adds, act, mayStand, plain}
-use Prim.Native.Nat.{_≤_, _<_}
-use mathlib.Core.Bool.{true}
-use mathlib.Core.Path.{_≡_, refl, sym, _∙_}
 use borrow.Author.Needs.{needs}
+use Rattle.rules.specs.Parameters.{act}
+use Rattle.builder.specs.Params.{styleOf, stepOf, kindFor}
+use Rattle.builder.proofs.LawsAsk.{act-plain, kind-plain, mayStand-plain}
+use Rattle.builder.proofs.LawsSpec.{adding-6, adding-7, adding-plain}
 use Rattle.builder.proofs.spec.ParametersSpecBuilder.add.Statement.{statement}
 use Rattle.builder.proofs.spec.ParametersSpecBuilder.add.Tie as tie
-use Rattle.builder.proofs.spec.ParametersSpecBuilder.add.Reads as reads
-use Rattle.builder.proofs.spec.ParametersSpecBuilder.add.Lts as lts
-use Rattle.builder.proofs.params.CurrentParameterStyle.positional.Reads as positional-reads
-use Rattle.builder.proofs.params.CurrentParameterStyle.positional_only.Reads as positional-only-reads
-use Rattle.builder.proofs.params.Parameters.name_is_new.Reads as name-is-new-reads
-use Rattle.builder.proofs.params.Parameters.push.Reads as push-reads
-use Rattle.builder.proofs.spec.ParametersSpecBuilder.refused.Reads as refused-reads
 
--- src/spec.rt:199:13
 refused-requires : tie.Need-refused-requires
 refused-requires c κs = search needs
 
--- src/spec.rt:199:13
 returns : tie.Need-returns
 returns c =
     let a = c .before .before .before .before .args in
@@ -30,15 +22,12 @@ returns c =
     (mayStand-plain (styleOf (a .self .«current_style»)) (kindFor (act (stepOf (a .s)))) (kind-plain (a .s) (pre .0) (pre .1)) ∙ pre .2)
     (c .before .if1 .taken))
 
--- src/spec.rt:201:13
 name-is-new-requires : tie.Need-name-is-new-requires
 name-is-new-requires c κs = search needs
 
--- src/spec.rt:202:13
 refused-requires-2 : tie.Need-refused-requires-2
 refused-requires-2 c κs = search needs
 
--- src/spec.rt:202:13
 returns-2 : tie.Need-returns-2
 returns-2 c =
     let a = c .before .before .before .before .before .before .args in
@@ -50,19 +39,15 @@ returns-2 c =
     (c .before .before .before .if1 .left)
     (rw k (sym (c .before .before .name-is-new .ensures) ∙ not-true _ (c .before .if2 .taken))))
 
--- src/spec.rt:209:25
 push-requires : tie.Need-push-requires
 push-requires c κs = search needs
 
--- src/spec.rt:210:34
 positional-only-requires : tie.Need-positional-only-requires
 positional-only-requires c κs = search needs
 
--- src/spec.rt:211:29
 positional-requires : tie.Need-positional-requires
 positional-requires c κs = search needs
 
--- src/spec.rt:191:5
 returns-3 : tie.Need-returns-3
 returns-3 c =
     let a = c .before .before .before .before .before .before .before .before .args in

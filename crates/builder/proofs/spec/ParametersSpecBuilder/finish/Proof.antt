@@ -1,20 +1,17 @@
-use Rattle.builder.proofs.LawsSpec.{never-fine, never-refused}
-use Rattle.cells.specs.Answer.{answerOf}
+-- `builder::spec::ParametersSpecBuilder::finish` meets its contract: the test of question 8.
+-- Assumes nothing.
+use mathlib.Core.Path.{refl, sym, ap, _∙_}
 use borrow.Author.Tests.{lt-leb, le-leb}
-use Rattle.rules.specs.Answer.{ask}
-use mathlib.Core.Path.{_≡_, refl, sym, ap, _∙_}
 use borrow.Author.Needs.{needs}
+use Rattle.rules.specs.Answer.{ask}
+use Rattle.cells.specs.Answer.{answerOf}
+use Rattle.builder.proofs.LawsSpec.{never-fine, never-refused}
 use Rattle.builder.proofs.spec.ParametersSpecBuilder.finish.Statement.{statement}
 use Rattle.builder.proofs.spec.ParametersSpecBuilder.finish.Tie as tie
-use Rattle.builder.proofs.spec.ParametersSpecBuilder.finish.Reads as reads
-use Rattle.builder.proofs.spec.ParametersSpecBuilder.finish.Lts as lts
-use Rattle.builder.proofs.spec.ParametersSpec.refused.Reads as refused-reads
 
--- src/spec.rt:283:13
 refused-requires : tie.Need-refused-requires
 refused-requires c κs = search needs
 
--- src/spec.rt:283:13
 returns : tie.Need-returns
 returns c =
     let b = c .before .before .before .args .self in
@@ -25,7 +22,6 @@ returns c =
       refused = λ n e. none .none;
     }
 
--- src/spec.rt:279:5
 returns-2 : tie.Need-returns-2
 returns-2 c =
     let b = c .before .before .before .args .self in

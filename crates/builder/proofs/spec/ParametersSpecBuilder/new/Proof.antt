@@ -1,19 +1,16 @@
+-- `builder::spec::ParametersSpecBuilder::new` meets its contract: without a parameter every count is 0 and every index absent.
+-- Assumes nothing.
 use mathlib.Core.Path.{_≡_, refl}
 use native.Mathlib.Omega.{arith}
+use borrow.Author.Needs.{needs}
 use Rattle.rules.specs.Parameters.{positionalOnlyCount, positionalCount, argsIndex, kwargsIndex}
 use Rattle.builder.specs.Params.{parametersIn}
-use borrow.Author.Needs.{needs}
 use Rattle.builder.proofs.spec.ParametersSpecBuilder.new.Statement.{statement}
 use Rattle.builder.proofs.spec.ParametersSpecBuilder.new.Tie as tie
-use Rattle.builder.proofs.spec.ParametersSpecBuilder.new.Reads as reads
-use Rattle.builder.proofs.spec.ParametersSpecBuilder.new.Lts as lts
-use Rattle.builder.proofs.params.Parameters.new.Reads as new-reads
 
--- src/spec.rt:88:21
 new-requires : tie.Need-new-requires
 new-requires c κs = search needs
 
--- src/spec.rt:84:5
 returns : tie.Need-returns
 unfolding parametersIn positionalOnlyCount positionalCount argsIndex kwargsIndex
 returns c =
