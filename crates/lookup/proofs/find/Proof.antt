@@ -126,7 +126,7 @@ candidates-again-4 c =
       search needs,
       c .before .before .before .before .before .before .before .before .before .before .candidates .inv .1
           ∙ firstAt-miss (fitsAt (a .area .now) (a .codes .now) (a .styles .now) (a .names .now) (a .name .now)) i (c .before .before .before .before .before .before .before .before .before .before .before .held .result) (c .before .before .before .before .before .before .before .before .before .candidates-test .taken)
-          (fits-size (a .area .now) (a .name .now) (getD (a .codes .now) i 0) (getD (a .styles .now) i 0) (getD (a .names .now) i 0) (sym (c .before .before .before .before .before .before .nameable .ensures) ∙ not-false _ (c .before .before .before .before .before .if1 .left)) (c .before .before .if2 .left) (c .before .if3 .left) (c .if4 .taken)),
+          (fits-size (a .area .now) (a .name .now) (getD (a .codes .now) i 0) (getD (a .styles .now) i 0) (getD (a .names .now) i 0) (sym (c .before .before .before .before .before .before .nameable .ensures) ∙ not-false _ (c .before .before .before .before .before .if1 .left)) (c .before .before .if2 .left) (c .before .if3 .left) (λ e. absurd (omega (arith, c .if4 .taken)))),
     )
 
 loop-holds : tie.Need-loop-holds Inv-loop μ-loop Inv-candidates μ-candidates

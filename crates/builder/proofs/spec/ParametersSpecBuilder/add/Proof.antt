@@ -1,6 +1,7 @@
 -- `builder::spec::ParametersSpecBuilder::add` meets its contract: 6, 7, and a plain parameter under the style that stays.
 -- Assumes nothing.
 use mathlib.Core.Path.{refl, sym, _∙_}
+use native.Mathlib.Omega.{arith}
 use borrow.Author.Tests.{not-true, not-false}
 use borrow.Author.Needs.{needs}
 use Rattle.rules.specs.Parameters.{act}
@@ -20,7 +21,7 @@ returns c =
     rw (c .refused .ensures)
     (adding-6 (a .area .now) (a .self) (a .s) (kindFor (act (stepOf (a .s)))) (act-plain (a .s) (pre .0) (pre .1))
     (mayStand-plain (styleOf (a .self .«current_style»)) (kindFor (act (stepOf (a .s)))) (kind-plain (a .s) (pre .0) (pre .1)) ∙ pre .2)
-    (c .before .if1 .taken))
+    (omega (arith, c .before .if1 .taken)))
 
 name-is-new-requires : tie.Need-name-is-new-requires
 name-is-new-requires c κs = search needs
@@ -36,7 +37,7 @@ returns-2 c =
     rw (c .refused2 .ensures)
     (adding-7 (a .area .now) (a .self) (a .s) (kindFor (act (stepOf (a .s)))) (act-plain (a .s) (pre .0) (pre .1))
     (mayStand-plain (styleOf (a .self .«current_style»)) (kindFor (act (stepOf (a .s)))) k ∙ pre .2)
-    (c .before .before .before .if1 .left)
+    (omega (arith, c .before .before .before .if1 .left))
     (rw k (sym (c .before .before .name-is-new .ensures) ∙ not-true _ (c .before .if2 .taken))))
 
 push-requires : tie.Need-push-requires
@@ -54,7 +55,7 @@ returns-3 c =
     let pre = c .before .before .before .before .before .before .before .before .pre in
     adding-plain (a .area .now) (a .self) _ (a .s) (kindFor (act (stepOf (a .s)))) (act-plain (a .s) (pre .0) (pre .1))
     (kind-plain (a .s) (pre .0) (pre .1)) (pre .2)
-    (c .before .before .before .before .before .if1 .left)
+    (omega (arith, c .before .before .before .before .before .if1 .left))
     (sym (c .before .before .before .before .name-is-new .ensures) ∙ not-false _ (c .before .before .before .if2 .left))
     (c .before .before .push .ensures)
     (c .before .positional-only .ensures)
