@@ -65,7 +65,7 @@ pub at-most-one : (b : Bool) → cond b 1 0 ≤ 1
 at-most-one true = omega arith
 at-most-one false = omega arith
 
-valueCells-two : (v : Value) → length (valueCells v) ≡ 2
+pub valueCells-two : (v : Value) → length (valueCells v) ≡ 2
 unfolding valueCells
 valueCells-two v = refl
 

@@ -10,3 +10,4 @@ pub mod LawsLoop
 pub mod LawsPrepared
 pub mod LawsSlots
 pub mod LawsWrite
+pub mod LawsPairs

@@ -6,3 +6,4 @@ pub mod Resolve
 pub mod Entries
 pub mod EntriesDone
 pub mod Slots
+pub mod Board

@@ -2,6 +2,7 @@
 // Reworked from starlark 0.14.2, src/eval/runtime/params/spec.rs, Apache-2.0.
 
 pub mod answer;
+pub mod board;
 pub mod detail;
 pub mod entries;
 pub mod found;
