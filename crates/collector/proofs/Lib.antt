@@ -11,3 +11,4 @@ pub mod LawsPrepared
 pub mod LawsSlots
 pub mod LawsWrite
 pub mod LawsPairs
+pub mod LawsPlaced

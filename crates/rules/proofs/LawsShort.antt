@@ -24,7 +24,7 @@ use Rattle.rules.proofs.LawsListing.{and-both}
 
 -- ---- every parameter is positional
 
-tally-most : (qs : List Parameter) → tally positional qs ≤ length qs
+pub tally-most : (qs : List Parameter) → tally positional qs ≤ length qs
 tally-most [] = omega arith
 tally-most (q ∷ qs) = go (positional q) (tally-most qs)
   where
