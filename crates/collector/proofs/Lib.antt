@@ -12,3 +12,4 @@ pub mod LawsSlots
 pub mod LawsWrite
 pub mod LawsPairs
 pub mod LawsPlaced
+pub mod LawsJudge

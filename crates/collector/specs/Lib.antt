@@ -7,3 +7,4 @@ pub mod Entries
 pub mod EntriesDone
 pub mod Slots
 pub mod Board
+pub mod Judge

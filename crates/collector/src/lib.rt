@@ -6,5 +6,6 @@ pub mod board;
 pub mod detail;
 pub mod entries;
 pub mod found;
+pub mod judge;
 pub mod resolve;
 pub mod slots;
