@@ -70,7 +70,7 @@ required-code (suc (suc (suc (suc (suc (suc (suc zero))))))) v = refl
 required-code (suc (suc (suc (suc (suc (suc (suc (suc n)))))))) v = sym (ne-eqb (suc (suc (suc (suc (suc (suc (suc (suc n)))))))) 1 (λ (e : suc (suc (suc (suc (suc (suc (suc (suc n))))))) ≡ 1). absurd (omega arith)))
 
 empty-required : (k : ParameterKind) (b : Bool) (n : ℕ) (cells : List ℕ) (v : Value) (stars named : ℕ)
-  → (isRequired k && rules.isUnfilled (cond b (rules.taken v) (rules.takenOr (sourceValue cells n) (rules.otherwise k stars named)))) ≡ (not b && (isRequired k && eqb n 0))
+    → (isRequired k && rules.isUnfilled (cond b (rules.taken v) (rules.takenOr (sourceValue cells n) (rules.otherwise k stars named)))) ≡ (not b && (isRequired k && eqb n 0))
 empty-required required true n cells v stars named = refl
 empty-required required false zero cells v stars named = refl
 empty-required required false (suc n) cells v stars named = sym (eqb·suc-zero n)
@@ -84,7 +84,7 @@ empty-required kwargs true n cells v stars named = refl
 empty-required kwargs false n cells v stars named = refl
 
 slot-missing : (codes kinds payloads sources cells : List ℕ) (h : Head) (next k stars named : ℕ) (spec : List ℕ) (p : Parameters) → codes ≡ p .codes → kinds ≡ p .«default_kinds» → payloads ≡ p .«default_payloads»
-  → (isRequired (parameterAt spec p k .kind) && rules.isUnfilled (slotAt codes kinds payloads sources cells h next k stars named)) ≡ (not (ltb k next) && (eqb (getD codes k 0) 1 && eqb (getD sources k 0) 0))
+    → (isRequired (parameterAt spec p k .kind) && rules.isUnfilled (slotAt codes kinds payloads sources cells h next k stars named)) ≡ (not (ltb k next) && (eqb (getD codes k 0) 1 && eqb (getD sources k 0) 0))
 unfolding parameterAt parameterOf slotAt
 slot-missing codes kinds payloads sources cells h next k stars named spec p c d e =
     ap (λ x. isRequired x && rules.isUnfilled (slotAt codes kinds payloads sources cells h next k stars named)) same
@@ -129,8 +129,8 @@ module _ (spec : List ℕ) (l : ParametersSpec) (list : Prepared spec l) where
     unfolding firstNamed
     repeats-found =
         repeats-first parameter (λ k. ltb k next && not (eqb (getD sources k 0) 0)) P N 0 qs anyParameter
-          (λ k h. parameter-is k h ∙ ap parameter (sym (zero-add k)))
-          (λ k h. subst (λ (n : ℕ). (rules.fromP P n (getD qs k anyParameter) && namedBy N (getD qs k anyParameter)) ≡ (ltb n next && not (eqb (getD sources n 0) 0))) (sym (zero-add k)) (ap₂ (λ a b. a && b) (from-P k h) (named-is k h)))
+        (λ k h. parameter-is k h ∙ ap parameter (sym (zero-add k)))
+        (λ k h. subst (λ (n : ℕ). (rules.fromP P n (getD qs k anyParameter) && namedBy N (getD qs k anyParameter)) ≡ (ltb n next && not (eqb (getD sources n 0) 0))) (sym (zero-add k)) (ap₂ (λ a b. a && b) (from-P k h) (named-is k h)))
         ∙ ap (repeatedAt parameter) (firstIndex-below (λ k. not (eqb (getD sources k 0) 0)) next 0 (length qs) (omega (arith, next-few)) ∙ ap (firstIndex (λ k. not (eqb (getD sources k 0) 0)) 0) (sub-zero next))
 
     module _ (h : Head) (values : (k : ℕ) → k < length P → getD P k noValue ≡ positionalAt cells h k) (stars named : ℕ) where
@@ -144,6 +144,7 @@ module _ (spec : List ℕ) (l : ParametersSpec) (list : Prepared spec l) where
         where
           unfilled : rules.Slot
           unfilled = rules.takenOr (sourceValue cells (getD sources k 0)) (unfilledAs (getD (l .params .codes) k 0) (value (getD (l .params .«default_kinds») k 0) (getD (l .params .«default_payloads») k 0)) stars named)
+
           go : (b : Bool) → ltb k next ≡ b → cond b (rules.taken (getD P k noValue)) unfilled ≡ cond b (rules.taken (readValue (drop (positionAt 64 h k) cells))) unfilled
           go true e = ap rules.taken (values k (omega (arith, ltb-true k next e)) ∙ positional-read cells h k)
           go false e = refl
@@ -158,7 +159,7 @@ module _ (spec : List ℕ) (l : ParametersSpec) (list : Prepared spec l) where
       slots-are =
           mapFrom-listed (rules.slotOf P N stars named) (parameterAt spec (l .params)) 0 (l .params .len)
           ∙ listed-same (λ k. rules.slotOf P N stars named k (parameterAt spec (l .params) k)) (λ k. slotAt (l .params .codes) (l .params .«default_kinds») (l .params .«default_payloads») sources cells h next k stars named) 0 (l .params .len)
-            (λ k low high. ap (rules.slotOf P N stars named k) (sym (parameter-is k (few k high))) ∙ slot-is k (few k high))
+          (λ k low high. ap (rules.slotOf P N stars named k) (sym (parameter-is k (few k high))) ∙ slot-is k (few k high))
         where
           few : (k : ℕ) → k < 0 + l .params .len → k < length qs
           few k high = omega (arith, length-list spec l cells area list)
@@ -168,12 +169,13 @@ module _ (spec : List ℕ) (l : ParametersSpec) (list : Prepared spec l) where
       unfolding firstMissing
       required-found =
           required-first parameter (λ k. not (ltb k next) && (eqb (getD (l .params .codes) k 0) 1 && eqb (getD sources k 0) 0)) (rules.slotOf P N stars named) 0 qs anyParameter
-            (λ k u. parameter-is k u ∙ ap parameter (sym (zero-add k)))
-            (λ k u. subst (λ (n : ℕ). (isRequired (getD qs k anyParameter .kind) && rules.isUnfilled (rules.slotOf P N stars named n (getD qs k anyParameter))) ≡ (not (ltb n next) && (eqb (getD (l .params .codes) n 0) 1 && eqb (getD sources n 0) 0))) (sym (zero-add k)) (tested k u))
+          (λ k u. parameter-is k u ∙ ap parameter (sym (zero-add k)))
+          (λ k u. subst (λ (n : ℕ). (isRequired (getD qs k anyParameter .kind) && rules.isUnfilled (rules.slotOf P N stars named n (getD qs k anyParameter))) ≡ (not (ltb n next) && (eqb (getD (l .params .codes) n 0) 1 && eqb (getD sources n 0) 0))) (sym (zero-add k)) (tested k u))
           ∙ ap (missingAt parameter) (firstIndex-from (λ k. eqb (getD (l .params .codes) k 0) 1 && eqb (getD sources k 0) 0) next 0 (length qs) (omega arith) ∙ ap (firstIndex (λ k. eqb (getD (l .params .codes) k 0) 1 && eqb (getD sources k 0) 0) next) whole)
         where
           whole : 0 + length qs - next ≡ l .params .len - next
           whole = omega (arith, length-list spec l cells area list)
+
           tested : (k : ℕ) → k < length qs → (isRequired (getD qs k anyParameter .kind) && rules.isUnfilled (rules.slotOf P N stars named k (getD qs k anyParameter))) ≡ (not (ltb k next) && (eqb (getD (l .params .codes) k 0) 1 && eqb (getD sources k 0) 0))
           tested k u =
               ap₂ (λ q s. isRequired (q .kind) && rules.isUnfilled s) (parameter-is k u) (slot-is k u)

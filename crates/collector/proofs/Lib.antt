@@ -13,3 +13,6 @@ pub mod LawsWrite
 pub mod LawsPairs
 pub mod LawsPlaced
 pub mod LawsJudge
+pub mod LawsFilling
+pub mod LawsCanFill
+pub mod LawsFillable

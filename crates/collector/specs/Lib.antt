@@ -8,3 +8,4 @@ pub mod EntriesDone
 pub mod Slots
 pub mod Board
 pub mod Judge
+pub mod CanFill

@@ -5,13 +5,13 @@
 //
 // 15 the star can be iterated; 16 no slot is filled by position and by a written name; 17 the double star is a dictionary; 18 and 19
 // entry by entry: a text, and free; 20 to 22 no required slot is empty; 23 and 24 what is left over has *args and **kwargs to go to.
+use crate::answer::Collected;
+use crate::found::first_missing;
+use crate::resolve::NAMED;
 use builder::spec::Index;
 use builder::spec::ParametersSpec;
 use calls::head::Head;
 use cells::record::pair_at;
-use crate::answer::Collected;
-use crate::found::first_missing;
-use crate::resolve::NAMED;
 ghost use mathlib.Core.Path.{_≡_};
 ghost use Rattle.calls.specs.Head.{headOf};
 ghost use Rattle.collector.specs.Judge.{lostTo, missingAs, remaindersAs, placedAs, PlacedReady};
@@ -50,7 +50,15 @@ fn lost(count: usize, room: usize, taker: Index) -> bool
 }
 
 // 20 to 24, of names that are resolved.
-pub fn ask_placed(list: ParametersSpec, cells: &[u64], h: Head, next: usize, sources: &[usize; 64], rest: &[usize; NAMED], count: usize) -> Judged
+pub fn ask_placed(
+    list: ParametersSpec,
+    cells: &[u64],
+    h: Head,
+    next: usize,
+    sources: &[usize; 64],
+    rest: &[usize; NAMED],
+    count: usize,
+) -> Judged
     requires { ⌜ PlacedReady list (headOf h) ⌝ }
     ensures { λ r. ⌜ r ≡ placedAs list (now (cells .entry)) (headOf h) next (now (sources .entry)) (now (rest .entry)) count ⌝ }
 {
@@ -71,7 +79,13 @@ fn missing_at(list: ParametersSpec, i: usize) -> Collected
 }
 
 // 23 and 24.
-fn ask_remainders(list: ParametersSpec, cells: &[u64], h: Head, rest: &[usize; NAMED], count: usize) -> Judged
+fn ask_remainders(
+    list: ParametersSpec,
+    cells: &[u64],
+    h: Head,
+    rest: &[usize; NAMED],
+    count: usize,
+) -> Judged
     requires { ⌜ PlacedReady list (headOf h) ⌝ }
     ensures { λ r. ⌜ r ≡ remaindersAs list (now (cells .entry)) (headOf h) (now (rest .entry)) count ⌝ }
 {

@@ -3,6 +3,7 @@
 
 pub mod answer;
 pub mod board;
+pub mod can_fill;
 pub mod detail;
 pub mod entries;
 pub mod found;

@@ -25,8 +25,12 @@ missing-at-requires : tie.Need-missing-at-requires
 missing-at-requires c κs =
     let start = c .before .before .before .before .before .before .before .before in
     let a = start .args in
-    omega (arith, start .pre .room, missing-within (a .list .params .codes) (a .sources .now) (a .next) (a .list .params .len) (c .before .i .given .0 .0)
-      (sym (c .before .before .before .first-missing .ensures) ∙ ap indexOf (c .before .i .given .1)))
+    omega (
+      arith,
+      start .pre .room,
+      missing-within (a .list .params .codes) (a .sources .now) (a .next) (a .list .params .len) (c .before .i .given .0 .0)
+          (sym (c .before .before .before .first-missing .ensures) ∙ ap indexOf (c .before .i .given .1)),
+    )
 
 enum-told : tie.Need-enum-told
 enum-told c = search needs

@@ -50,14 +50,14 @@ returns-2 c =
     let a = c .before .before .before .before .before .before .before .before .before .args in
     ap (λ v. Refused (ExtraNamedArg (a .count) (v .payload))) (c .pair-at .ensures)
     ∙ sym (ap (λ b. cond b (Refused (ExtraPositionalArg (a .h .p + a .h .s - a .list .indices .«num_positional»))) (cond (lostTo (a .count) 0 (indexOf (a .list .indices .kwargs))) (Refused (ExtraNamedArg (a .count) (pairAt (a .cells .now) (getD (a .rest .now) 0 0) .payload))) (Fine (a .count)))) (sym (c .before .before .before .before .before .lost .ensures) ∙ c .before .before .before .before .if1 .left)
-      ∙ ap (λ b. cond b (Refused (ExtraNamedArg (a .count) (pairAt (a .cells .now) (getD (a .rest .now) 0 0) .payload))) (Fine (a .count))) (sym (c .before .before .before .lost2 .ensures) ∙ c .before .before .if2 .taken))
+    ∙ ap (λ b. cond b (Refused (ExtraNamedArg (a .count) (pairAt (a .cells .now) (getD (a .rest .now) 0 0) .payload))) (Fine (a .count))) (sym (c .before .before .before .lost2 .ensures) ∙ c .before .before .if2 .taken))
 
 returns-3 : tie.Need-returns-3
 unfolding remaindersAs
 returns-3 c =
     let a = c .before .before .before .before .before .before .before .args in
     sym (ap (λ b. cond b (Refused (ExtraPositionalArg (a .h .p + a .h .s - a .list .indices .«num_positional»))) (cond (lostTo (a .count) 0 (indexOf (a .list .indices .kwargs))) (Refused (ExtraNamedArg (a .count) (pairAt (a .cells .now) (getD (a .rest .now) 0 0) .payload))) (Fine (a .count)))) (sym (c .before .before .before .lost .ensures) ∙ c .before .before .if1 .left)
-      ∙ ap (λ b. cond b (Refused (ExtraNamedArg (a .count) (pairAt (a .cells .now) (getD (a .rest .now) 0 0) .payload))) (Fine (a .count))) (sym (c .before .lost2 .ensures) ∙ c .if2 .left))
+    ∙ ap (λ b. cond b (Refused (ExtraNamedArg (a .count) (pairAt (a .cells .now) (getD (a .rest .now) 0 0) .payload))) (Fine (a .count))) (sym (c .before .lost2 .ensures) ∙ c .if2 .left))
 
 pub ask-remainders-spec : {M : Type 1} → statement M
 ask-remainders-spec =
