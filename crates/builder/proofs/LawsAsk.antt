@@ -19,7 +19,7 @@ use Rattle.builder.proofs.LawsCodes.{plain-code, plain-adds}
 -- ---- what is asked of a step, over the number A of parameters that a list may have
 
 module _ (A : ℕ) (area : List ℕ) (s : Style) (before : List Parameter) (t : RecordStep) where
-  -- "5 may it stand here?"
+  -- question 5
   pub askStep-5 : mayStand s (act t) ≡ false → askStep A area s before t ≡ refuse 5 noDetail
   unfolding askStep
   askStep-5 e = rw e

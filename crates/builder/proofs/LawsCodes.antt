@@ -1,5 +1,5 @@
--- Laws of the codes, "1 required, 2 optional, 3 defaulted, 4 the / mark, 5 the bare * mark, 6 *args, 7 **kwargs": what holds at each code
--- of a range holds of a code in it; then what `rules` says of a step's code, range by range. Assumes nothing.
+-- Laws of the codes 1 to 7: what holds at each code of a range holds of a code in it; then what `rules` says of a step's code, range by
+-- range. Assumes nothing.
 use mathlib.Core.Path.{_≡_, refl}
 use mathlib.Core.Bool.{true, false, _&&_}
 use mathlib.Core.List.{List}

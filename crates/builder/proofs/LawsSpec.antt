@@ -109,7 +109,7 @@ sofar-more posOrNamed b m h = h .2
 sofar-more namedOnly b m h = h
 sofar-more noMore b m h = absurd (false≢true m)
 
--- "Code 4 gives PosOrNamed": the / mark
+-- the / mark, after which a name will do as well
 pub stepping-slash
     : (area : List ℕ) (b : ParametersSpecBuilder) (t : RecordStep)
     → styleIn b ≡ posOnly → act t ≡ slash → Stepping area b t (underStyle PosOrNamed b)
@@ -121,7 +121,7 @@ stepping-slash area b t s e =
     (rw e)
     (rw s (λ h. (h .1, h .2, h .3)))
 
--- "5 and 6 NamedOnly": the bare * mark
+-- the bare * mark, after which only a name will do
 pub stepping-star
     : (area : List ℕ) (b : ParametersSpecBuilder) (t : RecordStep)
     → comesBefore (styleIn b) namedOnly ≡ true → act t ≡ bareStar → Stepping area b t (underStyle NamedOnly b)

@@ -1,4 +1,4 @@
--- The parameters as the code holds them, read as the list of `rules` (01, "Parameter list").
+-- The parameters as the code holds them, read as the list of `rules`.
 use mathlib.Core.Bool.{Bool, _&&_}
 use mathlib.Core.List.{List, [], _∷_, _++_}
 use mathlib.Core.Path.{_≡_}

@@ -1,4 +1,4 @@
--- What a step of the builder and its end promise (01, "Parameter list", and questions 5 to 8), for every state of the builder.
+-- What a step of the builder and its end promise (01, on the parameter list, and questions 5 to 8), for every state of the builder.
 use mathlib.Core.List.{List, [], _++_}
 use mathlib.Core.Option.{Option, none, some}
 use mathlib.Core.Path.{_≡_}

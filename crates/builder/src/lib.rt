@@ -1,4 +1,4 @@
-// The parameter list (01, "Parameter list: `ParametersSpecBuilder`"): from a parameter record to the finished list, questions 1 to 8.
+// The parameter list (01, on `ParametersSpecBuilder`): from a parameter record to the finished list, questions 1 to 8.
 // Reworked from starlark 0.14.2, src/eval/runtime/params/spec.rs, Apache-2.0.
 use cells::answer::Answer;
 use record::codes_known;

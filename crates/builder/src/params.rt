@@ -1,4 +1,4 @@
-// The parameters of a list, in the order in which they occur (01, "Parameter list"), as plain numbers, so that a search can be lent
+// The parameters of a list, in the order in which they occur, as plain numbers, so that a search can be lent
 // the columns that it reads. Reworked from starlark 0.14.2, src/eval/runtime/params/spec.rs (CurrentParameterStyle, and the
 // params of ParametersSpecBuilder), Apache-2.0.
 use cells::text::same;

@@ -1,4 +1,4 @@
-// The parameter record (01, "Cells, texts and records"): its steps, and questions 1 to 4, each put to the whole record.
+// The parameter record: its steps, and questions 1 to 4. Each is put to all the steps before the next is put to any.
 use crate::params::CAPACITY;
 use crate::params::Step;
 use cells::record::cell;
@@ -19,7 +19,7 @@ ghost use Rattle.builder.specs.Record.{stepAt, valueOf};
 // A list of the most parameters has two steps more, the `/` and the bare `*`.
 const MARKS: usize = 2;
 
-// Question 1: is it 1 + 4m cells, m at most 66?
+// Question 1: a cell for the function and whole steps, not too many of them.
 pub fn whole_steps(cells: &[u64]) -> bool
     ensures { λ r. ⌜ r ≡ wholeSteps 64 (now (cells .entry)) ⌝ }
 {
@@ -30,7 +30,7 @@ pub fn whole_steps(cells: &[u64]) -> bool
     m <= CAPACITY + MARKS
 }
 
-// Question 2: is every code 1 to 7?
+// Question 2: each step has a code that is one.
 pub fn codes_known(cells: &[u64]) -> bool
     ensures { λ r. ⌜ r ≡ codesKnown (readParameters (now (cells .entry)) .steps) ⌝ }
 {
@@ -45,7 +45,7 @@ pub fn codes_known(cells: &[u64]) -> bool
     true
 }
 
-// Question 3: is every name inside its area, 1 to 64 bytes?
+// Question 3: the function has a name, and so has each step whose code calls for one.
 pub fn names_inside(cells: &[u64], area: &[u8]) -> bool
     ensures { λ r. ⌜ r ≡ namesInside (now (area .entry)) (readParameters (now (cells .entry))) ⌝ }
 {
@@ -63,7 +63,7 @@ pub fn names_inside(cells: &[u64], area: &[u8]) -> bool
     true
 }
 
-// Question 4: are defaults well formed and unused cells 0?
+// Question 4: a default where the code calls for one, and nothing in cells that it leaves alone.
 pub fn defaults_right(cells: &[u64], area: &[u8]) -> bool
     ensures { λ r. ⌜ r ≡ defaultsRight (now (area .entry)) (readParameters (now (cells .entry)) .steps) ⌝ }
 {

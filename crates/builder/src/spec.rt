@@ -1,5 +1,5 @@
-// The builder of a parameter list, by value (01, "Parameter list: `ParametersSpecBuilder`"): each step takes the builder's state whole
-// and hands back the next. Reworked from starlark 0.14.2, src/eval/runtime/params/spec.rs, Apache-2.0.
+// The builder of a parameter list (01, on `ParametersSpecBuilder`), a struct by value: a step consumes one state and answers with another,
+// so a refused step cannot leave a half-changed one. Reworked from starlark 0.14.2, src/eval/runtime/params/spec.rs, Apache-2.0.
 use crate::params::CAPACITY;
 use crate::params::CurrentParameterStyle;
 use crate::params::Parameters;
@@ -97,7 +97,7 @@ impl ParametersSpecBuilder {
         }
     }
 
-    // One step. Its code is judged against the current style; then 6 and 7 are asked of a step that adds a parameter.
+    // One step: 5 by its code and the style so far, and then 6 and 7 where it adds a parameter.
     pub fn step(self, area: &[u8], s: Step) -> Stepped
         ensures { λ r. ⌜ Stepping (now (area .entry)) self (stepOf s) r ⌝ }
     {

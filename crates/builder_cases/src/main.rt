@@ -1,4 +1,4 @@
-// The examples of parameter records that 01 leaves to programs ("Programs check the rest"), a few of each refusal 1 to 7, and lookups of
+// The limits of parameter records that 01 has programs try rather than proofs, a few of each refusal 1 to 7, and lookups of
 // each kind. A line says what was asked and the number of the refusal, 0 for none, or the index found.
 use builder::spec::ParametersSpec;
 use cells::answer::Answer;

@@ -1,4 +1,4 @@
--- Looking up a name in the columns of a list (01, "Name lookup"), whatever they hold: the first parameter that the name fits.
+-- Looking up a name in the columns of a list, whatever they hold: the first parameter that the name fits.
 use mathlib.Core.Bool.{Bool, cond, _&&_}
 use mathlib.Core.List.{List}
 use Prim.Native.Nat.{ℕ, zero, suc, min}

@@ -1,5 +1,5 @@
-// Name lookup (01, "Name lookup: `SymbolMap`"): the index of the nameable parameter with these bytes, or none. The hash table is a plain
-// search. Reworked from starlark 0.14.2, src/collections/symbol/map.rs, Apache-2.0.
+// Looking up a name (01, on `SymbolMap`): which parameter a call means by it, if any. A plain search stands in for the hash table.
+// Reworked from starlark 0.14.2, src/collections/symbol/map.rs, Apache-2.0.
 use builder::params::CAPACITY;
 use builder::params::nameable;
 use builder::spec::ParametersSpec;
@@ -27,8 +27,8 @@ pub fn get_str(list: ParametersSpec, area: &[u8], name: &[u8]) -> Finding
     )
 }
 
-// The same over the columns, lent. A candidate is dropped at its first differing byte and the next one tried; one whose name does not lie
-// inside the area fits nothing.
+// The same over the columns, lent, so that a caller who asks for many names copies no list. The first byte that differs ends a candidate;
+// one whose name does not lie inside the area fits nothing.
 pub fn find<'a, 'b>(
     area: &'a [u8],
     codes: &'a [u64; CAPACITY],
