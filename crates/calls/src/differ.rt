@@ -18,7 +18,7 @@ ghost use Rattle.calls.specs.Runs.{Formed, keyThere, keysAt, newKey, nam
 ghost use Rattle.calls.specs.Keys.{sameRead};
 
 // 12, of the `count` entries from `from` on. Each key is held against those behind it.
-pub fn keys_differ(cells: &[u64], area: &[u8], from: usize, count: usize) -> bool
+pub(crate) fn keys_differ(cells: &[u64], area: &[u8], from: usize, count: usize) -> bool
     requires { ⌜ Formed (wellFormedEntry (now area)) (now cells) from count ⌝ }
     ensures { λ r. ⌜ r ≡ keysDiffer (keysAt (now (area .entry)) (now (cells .entry)) from count) ⌝ }
 {
@@ -80,7 +80,7 @@ fn same_read(area: &[u8], a: ReadKey, b: ReadKey) -> bool
 }
 
 // 13, of the `count` written pairs from `from` on. The Rust puts the names into a set; a plain search takes its place.
-pub fn names_differ(cells: &[u64], area: &[u8], from: usize, count: usize) -> bool
+pub(crate) fn names_differ(cells: &[u64], area: &[u8], from: usize, count: usize) -> bool
     requires { ⌜ Formed (wellFormedPair (now area)) (now cells) from count ⌝ }
     ensures { λ r. ⌜ r ≡ differ (namesAt (now (area .entry)) (now (cells .entry)) from count) ⌝ }
 {

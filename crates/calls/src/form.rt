@@ -60,7 +60,7 @@ pub fn kinds_right(cells: &[u64]) -> bool
 }
 
 // 11.
-pub fn parts_formed(cells: &[u64], area: &[u8]) -> bool
+pub(crate) fn parts_formed(cells: &[u64], area: &[u8]) -> bool
     requires { ⌜ lengthsRight 64 (now cells) ≡ true ⌝ }
     ensures { λ r. ⌜ r ≡ partsWellFormed (now (area .entry)) (readCall (now (cells .entry))) ⌝ }
 {

@@ -20,7 +20,14 @@ ghost use Rattle.collector.specs.Entries.{heldNames};
 ghost use Rattle.collector.specs.Board.{valuesIn, RestHeld};
 
 // `count` values of P from number `from` on, stored from cell `at` on.
-pub fn write_values(cells: &[u64], h: Head, from: usize, count: usize, at: usize, board: &mut [u64])
+pub(crate) fn write_values(
+    cells: &[u64],
+    h: Head,
+    from: usize,
+    count: usize,
+    at: usize,
+    board: &mut [u64],
+)
     requires { ⌜ (from ≤ 128) × (at + 2 * count ≤ length (now board)) ⌝ }
     ensures { λ r. ⌜ now (board .exit) ≡ stored (now (board .entry)) at (writeEach valueCells (valuesIn (now (cells .entry)) (headOf h) from count)) ⌝ }
 {
@@ -33,7 +40,13 @@ pub fn write_values(cells: &[u64], h: Head, from: usize, count: usize, at: usize
 }
 
 // The `count` pairs of the named remainder, stored from cell `at` on.
-pub fn write_named(cells: &[u64], rest: &[usize; NAMED], count: usize, at: usize, board: &mut [u64])
+pub(crate) fn write_named(
+    cells: &[u64],
+    rest: &[usize; NAMED],
+    count: usize,
+    at: usize,
+    board: &mut [u64],
+)
     requires { ⌜ RestHeld (now cells) (now rest) count × (at + 4 * count ≤ length (now board)) ⌝ }
     ensures { λ r. ⌜ ((area : List ℕ) → now (board .exit) ≡ stored (now (board .entry)) at (writeEach namedCells (heldNames area (now (cells .entry)) (now (rest .entry)) count))) ⌝ }
 {

@@ -31,7 +31,7 @@ pub enum Entries {
 }
 
 // All the entries, after the written names.
-pub fn resolve_entries(
+pub(crate) fn resolve_entries(
     list: ParametersSpec,
     spec: &[u8],
     cells: &[u64],
@@ -77,7 +77,7 @@ pub enum Entered {
 }
 
 // 18 and 19 of the entry at a cell.
-pub fn entry_at(
+pub(crate) fn entry_at(
     list: ParametersSpec,
     spec: &[u8],
     cells: &[u64],
@@ -157,7 +157,13 @@ fn is_taken(
 }
 
 // Does one of the `count` pairs of the remainder have this name?
-pub fn in_rest(cells: &[u64], area: &[u8], rest: &[usize; NAMED], count: usize, name: &[u8]) -> bool
+pub(crate) fn in_rest(
+    cells: &[u64],
+    area: &[u8],
+    rest: &[usize; NAMED],
+    count: usize,
+    name: &[u8],
+) -> bool
     requires { ⌜ Held (now area) (now cells) (now rest) count ⌝ }
     ensures { λ r. ⌜ r ≡ among (now (name .entry)) (textsOf (heldNames (now (area .entry)) (now (cells .entry)) (now (rest .entry)) count)) ⌝ }
 {

@@ -8,7 +8,7 @@ ghost use Rattle.collector.specs.Found.{firstNamed, firstMissing};
 ghost use Rattle.builder.specs.Spec.{indexOf};
 
 // The first of the slots below `next` that is named.
-pub fn first_named(sources: &[usize; 64], next: usize) -> Index
+pub(crate) fn first_named(sources: &[usize; 64], next: usize) -> Index
     requires { ⌜ next ≤ 64 ⌝ }
     ensures { λ r. ⌜ indexOf r ≡ firstNamed (now (sources .entry)) 0 next ⌝ }
 {
@@ -23,7 +23,7 @@ pub fn first_named(sources: &[usize; 64], next: usize) -> Index
 }
 
 // The first of the slots from `next` on, below `len`, whose parameter is required and that no name fills.
-pub fn first_missing<'a>(
+pub(crate) fn first_missing<'a>(
     codes: &'a [u64; 64],
     sources: &'a [usize; 64],
     next: usize,

@@ -26,7 +26,7 @@ pub enum Judged {
 }
 
 // The refusal for a required parameter that is given nothing, by how it could have been given.
-pub fn missing(style: u64, name: u64) -> Collected
+pub(crate) fn missing(style: u64, name: u64) -> Collected
     ensures { λ r. ⌜ r ≡ missingAs style name ⌝ }
 {
     match style {
@@ -50,7 +50,7 @@ fn lost(count: usize, room: usize, taker: Index) -> bool
 }
 
 // 20 to 24, of names that are resolved.
-pub fn ask_placed(
+pub(crate) fn ask_placed(
     list: ParametersSpec,
     cells: &[u64],
     h: Head,

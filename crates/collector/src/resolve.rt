@@ -16,7 +16,7 @@ ghost use Rattle.builder.specs.Params.{parametersIn};
 pub const NAMED: usize = 128;
 
 // The parameter that the pair at a cell names.
-pub fn found_at(
+pub(crate) fn found_at(
     list: ParametersSpec,
     spec: &[u8],
     cells: &[u64],
@@ -30,7 +30,7 @@ pub fn found_at(
 }
 
 // The pair's value fills the slot that is found, or the pair joins the remainder. How many pairs the remainder then has.
-pub fn enter(
+pub(crate) fn enter(
     found: Finding,
     pair: usize,
     sources: &mut [usize; 64],
@@ -55,7 +55,7 @@ pub fn enter(
 }
 
 // The written names, of which none stands twice.
-pub fn resolve_names(
+pub(crate) fn resolve_names(
     list: ParametersSpec,
     spec: &[u8],
     cells: &[u64],

@@ -25,7 +25,7 @@ pub enum Slot {
 }
 
 // Slot k: a value of P below `next`, or the value that a name gives it, or what its code says.
-pub fn slot_at<'a>(
+pub(crate) fn slot_at<'a>(
     codes: &'a [u64; 64],
     kinds: &'a [u64; 64],
     payloads: &'a [u64; 64],
@@ -50,7 +50,7 @@ pub fn slot_at<'a>(
 
 impl Slot {
     // The slot of a parameter that is given nothing, by its code.
-    pub fn unfilled(code: u64, default: Pair) -> Slot
+    pub(crate) fn unfilled(code: u64, default: Pair) -> Slot
         ensures { λ r. ⌜ slotIn r ≡ unfilledAs code (pairOf default) ⌝ }
     {
         match code {
@@ -63,7 +63,7 @@ impl Slot {
     }
 
     // Its two cells, where the remainders have `star` and `named` elements.
-    pub fn pair(self, star: usize, named: usize) -> Pair
+    pub(crate) fn pair(self, star: usize, named: usize) -> Pair
         ensures { λ r. ⌜ pairOf r ≡ slotValue (slotIn self star named) ⌝ }
     {
         match self {
@@ -76,7 +76,7 @@ impl Slot {
     }
 
     // 1 if it holds a value of the call, else 0.
-    pub fn taken(self) -> usize
+    pub(crate) fn taken(self) -> usize
         ensures { λ r. ⌜ r ≡ cond (isTaken (slotIn self 0 0)) 1 0 ⌝ }
     {
         match self {
@@ -89,7 +89,7 @@ impl Slot {
     }
 
     // 1 if it holds a default, else 0.
-    pub fn defaulted(self) -> usize
+    pub(crate) fn defaulted(self) -> usize
         ensures { λ r. ⌜ r ≡ cond (isDefaulted (slotIn self 0 0)) 1 0 ⌝ }
     {
         match self {
@@ -109,7 +109,7 @@ pub struct Filled {
 }
 
 // The cells of the first `len` slots, from cell 0 of the board on.
-pub fn write_slots<'a>(
+pub(crate) fn write_slots<'a>(
     codes: &'a [u64; 64],
     kinds: &'a [u64; 64],
     payloads: &'a [u64; 64],
