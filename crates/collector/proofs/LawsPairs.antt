@@ -38,7 +38,7 @@ unfolding namedCells pairCells namedAt namedIn textIn readPair pairAt
 named-cells area cells pair e =
     ap₂ (λ k v. valueCells (record { kind = k; payload = readValue (drop pair cells) .payload }) ++ valueCells v) (sym e) (namedAt-value area cells pair)
 
-named-wide : (v : Named) → length (namedCells v) ≡ 4
+pub named-wide : (v : Named) → length (namedCells v) ≡ 4
 unfolding namedCells pairCells valueCells
 named-wide v = refl
 

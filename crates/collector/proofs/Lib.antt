@@ -12,6 +12,7 @@ pub mod LawsSlots
 pub mod LawsWrite
 pub mod LawsPairs
 pub mod LawsPlaced
+pub mod LawsWritten
 pub mod LawsJudge
 pub mod LawsFilling
 pub mod LawsCanFill

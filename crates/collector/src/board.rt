@@ -1,6 +1,9 @@
-// What is left over, written behind the slots (01, board): the star remainder's values, then the named remainder's pairs.
+// The board of an accepted call (01, board): the slots, behind them the star remainder's values, then the named remainder's pairs.
 // Reworked from starlark 0.14.2, src/eval/runtime/params/spec.rs (collect_slow), Apache-2.0.
+use crate::answer::Counts;
 use crate::resolve::NAMED;
+use crate::slots::write_slots;
+use builder::spec::ParametersSpec;
 use calls::head::Head;
 use calls::head::PAIR;
 use calls::head::VALUE;
@@ -9,7 +12,7 @@ use cells::out::put;
 use cells::record::pair_at;
 ghost use mathlib.Core.Path.{_≡_};
 ghost use mathlib.Core.List.{List};
-ghost use Prim.Native.Nat.{ℕ, _+_, _*_, _≤_};
+ghost use Prim.Native.Nat.{ℕ, _+_, _-_, _*_, _≤_};
 ghost use lib.ListN.{length};
 ghost use Rattle.rules.specs.Cells.{writeEach};
 ghost use Rattle.rules.specs.Value.{valueCells};
@@ -17,7 +20,61 @@ ghost use Rattle.rules.specs.Board.{namedCells};
 ghost use Rattle.cells.specs.Out.{stored};
 ghost use Rattle.calls.specs.Head.{headOf};
 ghost use Rattle.collector.specs.Entries.{heldNames};
-ghost use Rattle.collector.specs.Board.{valuesIn, RestHeld};
+ghost use Rattle.collector.specs.Board.{valuesIn, RestHeld, BoardReady, BoardWritten};
+
+// All of it, and how much there is of each part.
+pub(crate) fn write_board<'a>(
+    list: ParametersSpec,
+    cells: &'a [u64],
+    h: Head,
+    next: usize,
+    sources: &'a [usize; 64],
+    rest: &'a [usize; NAMED],
+    count: usize,
+    board: &mut [u64],
+) -> Counts
+    requires { ⌜ BoardReady list (now cells) (headOf h) (now rest) count (now board) ⌝ }
+    ensures { λ r. ⌜ BoardWritten list (now (cells .entry)) (headOf h) next (now (sources .entry)) (now (rest .entry)) count (now (board .entry)) (now (board .exit)) r ⌝ }
+{
+    let positional = list.indices.num_positional;
+    let star = left_over(h.p + h.s, positional);
+    let params = list.params;
+    let codes = params.codes;
+    let kinds = params.default_kinds;
+    let payloads = params.default_payloads;
+    let len = params.len;
+    let filled = write_slots(
+        &codes,
+        &kinds,
+        &payloads,
+        sources,
+        cells,
+        h,
+        next,
+        len,
+        star,
+        count,
+        board,
+    );
+    write_values(cells, h, positional, star, VALUE * len, board);
+    write_named(cells, rest, count, VALUE * len + VALUE * star, board);
+    Counts {
+        taken: filled.taken,
+        defaulted: filled.defaulted,
+        star,
+        named: count,
+    }
+}
+
+// How many of `total` are left when `room` have found a place.
+fn left_over(total: usize, room: usize) -> usize
+    ensures { λ r. ⌜ r ≡ total - room ⌝ }
+{
+    if total <= room {
+        return 0;
+    }
+    total - room
+}
 
 // `count` values of P from number `from` on, stored from cell `at` on.
 pub(crate) fn write_values(
