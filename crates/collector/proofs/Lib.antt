@@ -14,6 +14,7 @@ pub mod LawsPairs
 pub mod LawsPlaced
 pub mod LawsWritten
 pub mod LawsJudge
+pub mod LawsAskPlaced
 pub mod LawsFilling
 pub mod LawsCanFill
 pub mod LawsFillable

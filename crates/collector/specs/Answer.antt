@@ -32,6 +32,21 @@ told (MissingNamedOnly name) after = refused 22 (rules.name (placeOf rules.specA
 told (ExtraPositionalArg n) after = refused 23 (rules.count n)
 told (ExtraNamedArg n name) after = refused 24 (rules.countAndName n (placeOf rules.callArea name))
 
+-- the answer of 01's questions that an answer tells
+abbrev pub answerIn : Collected → rules.Answer
+answerIn (Accepted c) = rules.fine
+answerIn (Record n) = rules.refuse n rules.none
+answerIn ArgsArrayIsNotIterable = rules.refuse 15 rules.none
+answerIn (RepeatedParameter name) = rules.refuse 16 (rules.name (placeOf rules.specArea name))
+answerIn KwArgsIsNotDict = rules.refuse 17 rules.none
+answerIn ArgsValueIsNotString = rules.refuse 18 rules.none
+answerIn (RepeatedArg name) = rules.refuse 19 (rules.name (placeOf rules.callArea name))
+answerIn (MissingPositionalOnly name) = rules.refuse 20 (rules.name (placeOf rules.specArea name))
+answerIn (Missing name) = rules.refuse 21 (rules.name (placeOf rules.specArea name))
+answerIn (MissingNamedOnly name) = rules.refuse 22 (rules.name (placeOf rules.specArea name))
+answerIn (ExtraPositionalArg n) = rules.refuse 23 (rules.count n)
+answerIn (ExtraNamedArg n name) = rules.refuse 24 (rules.countAndName n (placeOf rules.callArea name))
+
 -- the bytes of the name in an answer's detail, in the area where it stands
 abbrev pub nameBytes : List ℕ → List ℕ → Collected → List ℕ
 nameBytes spec call (Accepted c) = []

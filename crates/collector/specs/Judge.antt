@@ -6,11 +6,13 @@ use mathlib.Core.Option.{Option, none, some}
 use Prim.Native.Nat.{ℕ, zero, suc, _+_, _-_, _≤_}
 use lib.Dec.{ltb}
 use lib.ListN.{getD}
+use Rattle.rules.specs.Answer.{Answer, fine}
 use Rattle.rules.specs.CallRecord.{Head}
 use Rattle.cells.specs.Record.{pairAt}
 use Rattle.builder.specs.Spec.{indexOf}
 use Rattle.builder.specs.declared.spec.ParametersSpec.{ParametersSpec}
 use Rattle.calls.specs.Head.{Few}
+use Rattle.collector.specs.Answer.{answerIn}
 use Rattle.collector.specs.Found.{firstMissing}
 use Rattle.collector.specs.declared.answer.Collected.{Collected}
 use Rattle.collector.specs.declared.answer.Collected.the-variants.{MissingPositionalOnly, Missing, MissingNamedOnly, ExtraPositionalArg, ExtraNamedArg}
@@ -46,3 +48,8 @@ placedAs l cells h next sources rest count =
 pub record PlacedReady (l : ParametersSpec) (h : Head) : Type 0 where
   pub room : l .params .len ≤ 64
   pub few : Few 64 h
+
+-- 01's answer
+abbrev pub judgedAnswer : Judged → Answer
+judgedAnswer (Fine count) = fine
+judgedAnswer (Refused a) = answerIn a
