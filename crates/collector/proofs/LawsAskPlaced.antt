@@ -1,26 +1,24 @@
 -- 20 to 24 as the code asks them are 20 to 24.
 -- Assumes nothing.
-use mathlib.Core.Path.{_≡_, refl, sym, ap, ap₂, subst, _∙_}
-use mathlib.Core.Bool.{Bool, true, false, cond, not, _&&_, _||_, false≢true, true≢false}
+use mathlib.Core.Path.{_≡_, refl, sym, ap, ap₂, _∙_}
+use mathlib.Core.Bool.{Bool, true, false, cond, _||_}
 use mathlib.Core.List.{List, [], _∷_, map}
 use mathlib.Core.Option.{Option, none, some}
 use Prim.Native.Nat.{ℕ, zero, suc, _+_, _-_, min, _≤_, _<_}
 use native.Mathlib.Omega.{arith}
 use borrow.Author.Tests.{lt-ltb, le-ltb}
-use lib.Dec.{ltb}
 use lib.ListN.{length, take, getD, length-drop, length-map, length-take}
-use Rattle.rules.specs.Listing.{any, firstFrom, mapFrom}
-use Rattle.rules.specs.Text.{startOf, sizeOf, textIn}
+use Rattle.rules.specs.Listing.{any, firstFrom}
+use Rattle.rules.specs.Text.{textIn}
 use Rattle.rules.specs.Value.{Value, noValue, readValue}
 use Rattle.rules.specs.Answer.{Answer, fine, refuse, _then_, name, count, countAndName, specArea, callArea, partOf}
 use Rattle.rules.specs.CallRecord.{Head, Named, namedIn, readPair}
 use Rattle.rules.specs.Parameters.{Parameter, isArgs, isKwargs, positionalCount, argsIndex, kwargsIndex, hasArgs, hasKwargs}
-use Rattle.rules.specs.Placement.{place, slotOf, starRemainder, namedRemainder}
-use Rattle.rules.specs.Binding.{missing, askRequired, askStarRemainder, askNamedRemainder, askPlaced}
+use Rattle.rules.specs.Placement.{place, starRemainder, namedRemainder}
+use Rattle.rules.specs.Binding.{missing, askStarRemainder, askNamedRemainder, askPlaced}
 use Rattle.cells.specs.Record.{pairAt}
 use Rattle.builder.specs.Spec.{indexOf}
 use Rattle.builder.specs.Params.{styleFor, parameterOf, parameterAt, parametersIn}
-use Rattle.builder.specs.declared.params.Parameters.{Parameters}
 use Rattle.builder.specs.declared.spec.ParametersSpec.{ParametersSpec}
 use Rattle.collector.specs.Answer.{placeOf, answerIn}
 use Rattle.collector.specs.Resolved.{namedAt, Resolved}

@@ -15,6 +15,7 @@ pub mod LawsPlaced
 pub mod LawsWritten
 pub mod LawsJudge
 pub mod LawsAskPlaced
+pub mod LawsQuestions
 pub mod LawsFilling
 pub mod LawsCanFill
 pub mod LawsFillable

@@ -8,4 +8,5 @@ pub mod EntriesDone
 pub mod Slots
 pub mod Board
 pub mod Judge
+pub mod Questions
 pub mod CanFill

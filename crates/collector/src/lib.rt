@@ -8,5 +8,6 @@ pub mod detail;
 pub mod entries;
 pub mod found;
 pub mod judge;
+pub mod questions;
 pub mod resolve;
 pub mod slots;
