@@ -26,12 +26,12 @@ use Rattle.builder.specs.Params.{parameterOf, parameterAt, parametersIn}
 use Rattle.builder.specs.declared.spec.ParametersSpec.{ParametersSpec}
 use Rattle.builder.proofs.LawsListed.{length-listed}
 use Rattle.calls.specs.Head.{namedFrom, entriesFrom}
-use Rattle.collector.specs.Answer.{answerIn}
+use Rattle.collector.specs.Answer.{answerIn, isRefusal}
 use Rattle.collector.specs.Resolved.{namedAt, Resolved}
 use Rattle.collector.specs.Resolve.{pairsFrom, Naming}
 use Rattle.collector.specs.Found.{firstNamed, firstMissing}
 use Rattle.collector.specs.EntriesDone.{writtenNames, entryAt, entriesIn, entriesAnswer, EntriesDone}
-use Rattle.collector.specs.Judge.{lostTo, missingAs, missingOr, remaindersAs, placedAs, judgedAnswer}
+use Rattle.collector.specs.Judge.{lostTo, missingAs, missingOr, remaindersAs, placedAs, judgedAnswer, refusing}
 use Rattle.collector.specs.Questions.{askAfterNames, CallReady, Judging}
 use Rattle.collector.specs.declared.answer.Collected.{Collected}
 use Rattle.collector.specs.declared.answer.Collected.the-variants.{RepeatedParameter, ExtraPositionalArg, ExtraNamedArg}
@@ -84,8 +84,30 @@ placed-count l cells h next sources rest kept n e =
 
 -- ---- a refusal, which resolves nothing
 
-pub judged-refused : (qs : List Parameter) (c : Call) (cells area : List ℕ) (asked : Answer) (sources rest : List ℕ) (a : Collected) → answerIn a ≡ asked → Judging qs c cells area asked sources rest (Refused a)
-judged-refused qs c cells area asked sources rest a e = record { answer = e; resolved = λ count f. let z : _≡_ {A = ℕ} 0 1 = cc in absurd (omega arith) }
+-- 20 to 24 hand on no acceptance
+placed-refusing : (l : ParametersSpec) (cells : List ℕ) (h : Head) (next : ℕ) (sources rest : List ℕ) (count : ℕ) → refusing (placedAs l cells h next sources rest count) ≡ true
+unfolding placedAs remaindersAs
+placed-refusing l cells h next sources rest count =
+    first (firstMissing (l .params .codes) sources next (l .params .len - next))
+    (lostTo (h .p + h .s) (l .indices .«num_positional») (indexOf (l .indices .args))) (lostTo count 0 (indexOf (l .indices .kwargs)))
+  where
+    styled : (style payload : ℕ) → isRefusal (missingAs style payload) ≡ true
+    styled zero payload = refl
+    styled (suc zero) payload = refl
+    styled (suc (suc style)) payload = refl
+
+    first : (o : Option ℕ) (a b : Bool)
+        → refusing
+          (missingOr o (λ i. missingAs (getD (l .params .styles) i 0) (getD (l .params .names) i 0))
+          (cond a (Refused (ExtraPositionalArg (h .p + h .s - l .indices .«num_positional»))) (cond b (Refused (ExtraNamedArg count (pairAt cells (getD rest 0 0) .payload))) (Fine count))))
+        ≡ true
+    first (some i) a b = styled (getD (l .params .styles) i 0) (getD (l .params .names) i 0)
+    first none true b = refl
+    first none false true = refl
+    first none false false = refl
+
+pub judged-refused : (qs : List Parameter) (c : Call) (cells area : List ℕ) (asked : Answer) (sources rest : List ℕ) (a : Collected) → isRefusal a ≡ true → answerIn a ≡ asked → Judging qs c cells area asked sources rest (Refused a)
+judged-refused qs c cells area asked sources rest a u e = record { answer = e; refusal = u; resolved = λ count f. let z : _≡_ {A = ℕ} 0 1 = cc in absurd (omega arith) }
 
 module _ (spec : List ℕ) (l : ParametersSpec) (cells area : List ℕ) (h : Head) (next : ℕ) (c : Call) (ready : CallReady spec l cells area h next c) where
   abbrev qs : List Parameter
@@ -177,5 +199,6 @@ module _ (spec : List ℕ) (l : ParametersSpec) (cells area : List ℕ) (h : Hea
                 ap judgedAnswer is
                 ∙ placed-asked spec l (ready .list) cells area P (namedOf c) sources rest count next (ready .upto) all-resolved few-kept h (ready .values) (ready .long)
                 ∙ sym (after-double ∙ ap (λ x. entriesAnswer x then askPlaced qs P (namedOf c)) all);
+            refusal = ap refusing is ∙ placed-refusing l cells h next sources rest count;
             resolved = λ n e. subst (λ m. Resolved qs cells area (namedOf c) sources rest m) (placed-count l cells h next sources rest count n (sym is ∙ e)) all-resolved;
           }

@@ -1,4 +1,5 @@
 -- 01's number and detail for each answer of collection, and the bytes of the name in a detail.
+use mathlib.Core.Bool.{Bool, true, false}
 use mathlib.Core.List.{List, []}
 use Prim.Native.Nat.{ℕ}
 use Rattle.rules.specs.Text.{startOf, sizeOf}
@@ -46,6 +47,21 @@ answerIn (Missing name) = rules.refuse 21 (rules.name (placeOf rules.specArea na
 answerIn (MissingNamedOnly name) = rules.refuse 22 (rules.name (placeOf rules.specArea name))
 answerIn (ExtraPositionalArg n) = rules.refuse 23 (rules.count n)
 answerIn (ExtraNamedArg n name) = rules.refuse 24 (rules.countAndName n (placeOf rules.callArea name))
+
+-- does an answer refuse?
+abbrev pub isRefusal : Collected → Bool
+isRefusal (Accepted c) = false
+isRefusal (Record n) = true
+isRefusal ArgsArrayIsNotIterable = true
+isRefusal (RepeatedParameter name) = true
+isRefusal KwArgsIsNotDict = true
+isRefusal ArgsValueIsNotString = true
+isRefusal (RepeatedArg name) = true
+isRefusal (MissingPositionalOnly name) = true
+isRefusal (Missing name) = true
+isRefusal (MissingNamedOnly name) = true
+isRefusal (ExtraPositionalArg n) = true
+isRefusal (ExtraNamedArg n name) = true
 
 -- the bytes of the name in an answer's detail, in the area where it stands
 abbrev pub nameBytes : List ℕ → List ℕ → Collected → List ℕ

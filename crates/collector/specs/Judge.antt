@@ -12,7 +12,7 @@ use Rattle.cells.specs.Record.{pairAt}
 use Rattle.builder.specs.Spec.{indexOf}
 use Rattle.builder.specs.declared.spec.ParametersSpec.{ParametersSpec}
 use Rattle.calls.specs.Head.{Few}
-use Rattle.collector.specs.Answer.{answerIn}
+use Rattle.collector.specs.Answer.{answerIn, isRefusal}
 use Rattle.collector.specs.Found.{firstMissing}
 use Rattle.collector.specs.declared.answer.Collected.{Collected}
 use Rattle.collector.specs.declared.answer.Collected.the-variants.{MissingPositionalOnly, Missing, MissingNamedOnly, ExtraPositionalArg, ExtraNamedArg}
@@ -53,3 +53,8 @@ pub record PlacedReady (l : ParametersSpec) (h : Head) : Type 0 where
 abbrev pub judgedAnswer : Judged → Answer
 judgedAnswer (Fine count) = fine
 judgedAnswer (Refused a) = answerIn a
+
+-- what is handed on as a refusal is one
+abbrev pub refusing : Judged → Bool
+refusing (Fine count) = true
+refusing (Refused a) = isRefusal a

@@ -19,7 +19,7 @@ use Rattle.collector.specs.Resolved.{Resolved}
 use Rattle.collector.specs.Resolve.{Prepared, Pairs}
 use Rattle.collector.specs.EntriesDone.{writtenNames, entriesIn}
 use Rattle.collector.specs.Board.{positionalAt}
-use Rattle.collector.specs.Judge.{judgedAnswer}
+use Rattle.collector.specs.Judge.{judgedAnswer, refusing}
 use Rattle.collector.specs.declared.judge.Judged.{Judged}
 use Rattle.collector.specs.declared.judge.Judged.the-variants.{Fine}
 
@@ -48,4 +48,5 @@ pub record CallReady (spec : List ℕ) (l : ParametersSpec) (cells area : List �
 -- the answer is 01's, and without a refusal every name of N is resolved
 pub record Judging (qs : List Parameter) (c : Call) (cells area : List ℕ) (asked : Answer) (sources rest : List ℕ) (r : Judged) : Type 0 where
   pub answer : judgedAnswer r ≡ asked
+  pub refusal : refusing r ≡ true
   pub resolved : (count : ℕ) → r ≡ Fine count → Resolved qs cells area (namedOf c) sources rest count

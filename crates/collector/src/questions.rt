@@ -27,7 +27,7 @@ ghost use Rattle.collector.specs.Questions.{askAfterNames, CallReady, Ju
 ghost use Rattle.collector.specs.declared.answer.Collected.the-variants.{RepeatedParameter};
 
 // All of them, with nothing resolved yet; the first `next` slots are filled by position.
-pub fn judge(
+pub(crate) fn judge(
     list: ParametersSpec,
     spec: &[u8],
     cells: &[u64],

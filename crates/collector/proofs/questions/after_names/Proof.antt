@@ -1,5 +1,5 @@
 -- `collector::questions::after_names` meets its contract: 17 by the head, 18 and 19 as the entries answer, then 20 to 24. Assumes nothing.
-use mathlib.Core.Path.{ap}
+use mathlib.Core.Path.{refl, ap}
 use Rattle.rules.specs.Answer.{none, name, callArea}
 use Rattle.rules.specs.Collection.{callOf}
 use Rattle.calls.specs.Head.{headOf}
@@ -15,7 +15,7 @@ returns : tie.Need-returns
 returns c =
     let start = c .before .before .before .before .before in
     let a = start .args in
-    judged-refused _ _ _ _ _ _ _ KwArgsIsNotDict (asked-double (a .spec .now) (a .list) (a .cells .now) (a .area .now) (headOf (a .h)) (a .next) (callOf (a .cells .now) (a .area .now)) (start .pre .0) (c .if1 .taken))
+    judged-refused _ _ _ _ _ _ _ KwArgsIsNotDict refl (asked-double (a .spec .now) (a .list) (a .cells .now) (a .area .now) (headOf (a .h)) (a .next) (callOf (a .cells .now) (a .area .now)) (start .pre .0) (c .if1 .taken))
 
 resolve-entries-requires : tie.Need-resolve-entries-requires
 resolve-entries-requires c κs = search needs
@@ -38,7 +38,7 @@ returns-2 c =
     let test = done .before .before .before in
     let start = test .before .before .before .before .before in
     let a = start .args in
-    judged-refused _ _ _ _ _ _ _ ArgsValueIsNotString
+    judged-refused _ _ _ _ _ _ _ ArgsValueIsNotString refl
     (asked-entries (a .spec .now) (a .list) (a .cells .now) (a .area .now) (headOf (a .h)) (a .next) (callOf (a .cells .now) (a .area .now)) (start .pre .0) (test .if1 .left) (done .resolve-entries .last .1 .1 .1 .1 .1 .1 .0) (done .resolve-entries .last .1 .1 .1 .1 .1 .1 .1 .0) (done .resolve-entries .result) (done .resolve-entries .ensures) 18 none (ap entriesAnswer (c .enum-told .given .1)))
 
 returns-3 : tie.Need-returns-3
@@ -47,7 +47,7 @@ returns-3 c =
     let test = done .before .before .before in
     let start = test .before .before .before .before .before in
     let a = start .args in
-    judged-refused _ _ _ _ _ _ _ (RepeatedArg (c .before .entered .given .0 .0))
+    judged-refused _ _ _ _ _ _ _ (RepeatedArg (c .before .entered .given .0 .0)) refl
     (asked-entries (a .spec .now) (a .list) (a .cells .now) (a .area .now) (headOf (a .h)) (a .next) (callOf (a .cells .now) (a .area .now)) (start .pre .0) (test .if1 .left) (done .resolve-entries .last .1 .1 .1 .1 .1 .1 .0) (done .resolve-entries .last .1 .1 .1 .1 .1 .1 .1 .0) (done .resolve-entries .result) (done .resolve-entries .ensures) 19 (name (placeOf callArea (c .before .entered .given .0 .0))) (ap entriesAnswer (c .before .entered .given .1)))
 
 returns-4 : tie.Need-returns-4

@@ -1,12 +1,12 @@
 -- `collector::questions::judge` meets its contract: 15 by the head, 16 by what the written names fill, and the rest by `after_names`.
 -- Assumes nothing.
-use mathlib.Core.Path.{sym, ap, subst, _∙_}
+use mathlib.Core.Path.{refl, sym, ap, subst, _∙_}
 use native.Mathlib.Omega.{arith}
 use Rattle.rules.specs.Collection.{callOf}
 use Rattle.builder.specs.Params.{parametersIn}
 use Rattle.builder.specs.Spec.{indexOf}
 use Rattle.calls.specs.Head.{headOf}
-use Rattle.collector.specs.Answer.{answerIn}
+use Rattle.collector.specs.Answer.{answerIn, isRefusal}
 use Rattle.collector.specs.Resolved.{Resolved}
 use Rattle.collector.specs.Resolve.{pairsFrom}
 use Rattle.collector.specs.EntriesDone.{writtenNames}
@@ -22,7 +22,7 @@ returns : tie.Need-returns
 returns c =
     let start = c .before .before .before .before .before in
     let a = start .args in
-    judged-refused _ _ _ _ _ _ _ ArgsArrayIsNotIterable (asked-star (a .spec .now) (a .list) (a .cells .now) (a .area .now) (headOf (a .h)) (a .next) (callOf (a .cells .now) (a .area .now)) (start .pre .0) (c .if1 .taken))
+    judged-refused _ _ _ _ _ _ _ ArgsArrayIsNotIterable refl (asked-star (a .spec .now) (a .list) (a .cells .now) (a .area .now) (headOf (a .h)) (a .next) (callOf (a .cells .now) (a .area .now)) (start .pre .0) (c .if1 .taken))
 
 named-from-requires : tie.Need-named-from-requires
 named-from-requires c κs = search needs
@@ -75,7 +75,7 @@ returns-2 c =
     let test = names .before .before .before .before in
     let start = test .before .before .before .before .before in
     let a = start .args in
-    judged-refused _ _ _ _ _ _ _ (c .repeated-at .result)
+    judged-refused _ _ _ _ _ _ _ (c .repeated-at .result) (ap isRefusal (c .repeated-at .ensures))
     (ap answerIn (c .repeated-at .ensures)
     ∙ asked-repeated (a .spec .now) (a .list) (a .cells .now) (a .area .now) (headOf (a .h)) (a .next) (callOf (a .cells .now) (a .area .now)) (start .pre .0) (test .if1 .left) (names .resolve-names .last .1 .1 .1 .1 .1 .1 .0) (names .resolve-names .last .1 .1 .1 .1 .1 .1 .1 .0) (names .resolve-names .result) (written names) (found .repeated .given .0 .0) (sym (found .before .before .first-named .ensures) ∙ ap indexOf (found .repeated .given .1)))
 
