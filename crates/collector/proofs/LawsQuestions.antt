@@ -98,8 +98,8 @@ placed-refusing l cells h next sources rest count =
 
     first : (o : Option ℕ) (a b : Bool)
         → refusing
-          (missingOr o (λ i. missingAs (getD (l .params .styles) i 0) (getD (l .params .names) i 0))
-          (cond a (Refused (ExtraPositionalArg (h .p + h .s - l .indices .«num_positional»))) (cond b (Refused (ExtraNamedArg count (pairAt cells (getD rest 0 0) .payload))) (Fine count))))
+        (missingOr o (λ i. missingAs (getD (l .params .styles) i 0) (getD (l .params .names) i 0))
+        (cond a (Refused (ExtraPositionalArg (h .p + h .s - l .indices .«num_positional»))) (cond b (Refused (ExtraNamedArg count (pairAt cells (getD rest 0 0) .payload))) (Fine count))))
         ≡ true
     first (some i) a b = styled (getD (l .params .styles) i 0) (getD (l .params .names) i 0)
     first none true b = refl

@@ -10,3 +10,4 @@ pub mod Board
 pub mod Judge
 pub mod Questions
 pub mod CanFill
+pub mod Collect

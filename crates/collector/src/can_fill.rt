@@ -134,7 +134,7 @@ fn is_there(index: Index) -> bool
 }
 
 // The smaller of two numbers.
-fn least(a: usize, b: usize) -> usize
+pub(crate) fn least(a: usize, b: usize) -> usize
     ensures { λ r. ⌜ r ≡ min a b ⌝ }
 {
     if a < b {

@@ -4,6 +4,7 @@
 pub mod answer;
 pub mod board;
 pub mod can_fill;
+pub mod collect;
 pub mod detail;
 pub mod entries;
 pub mod found;

@@ -1,0 +1,53 @@
+-- What collection promises, from a call that passed its questions up to raw records, and when the short path is taken.
+use mathlib.Core.Path.{_≡_}
+use mathlib.Core.Bool.{Bool, _&&_}
+use mathlib.Core.List.{List, []}
+use Prim.Native.Nat.{ℕ, _+_, min, _≤_}
+use lib.Dec.{eqb}
+use lib.ListN.{length}
+use Rattle.rules.specs.Answer.{_then_}
+use Rattle.rules.specs.CallRecord.{Head, Call, noStar, noDouble, positionalsOf, namedOf}
+use Rattle.rules.specs.Parameters.{Parameter, positionalCount}
+use Rattle.rules.specs.CallQuestions.{askCall, askBoard}
+use Rattle.rules.specs.Binding.{askBinding}
+use Rattle.rules.specs.Collection.{Outcome, outcomeOf, boardLeft, callOf}
+use Rattle.builder.specs.Params.{parametersIn}
+use Rattle.builder.specs.declared.spec.ParametersSpec.{ParametersSpec}
+use Rattle.collector.specs.Answer.{told}
+use Rattle.collector.specs.Board.{valuesIn}
+use Rattle.collector.specs.Questions.{CallReady}
+use Rattle.collector.specs.declared.answer.Collected.{Collected}
+
+-- an answer, with the board before and after it, is an outcome of `rules`: number and detail, or the counts; and every cell of the board
+pub record Ends (outcome : Outcome) (before after : List ℕ) (r : Collected) : Type 0 where
+  pub answer : told r after ≡ outcome
+  pub board : after ≡ boardLeft outcome before
+
+-- how a call that passed 9 to 14 ends against a list: 15 to 24, and then placement
+abbrev pub bindingOf : List Parameter → Call → List ℕ → Outcome
+bindingOf qs c board = outcomeOf (askBinding qs c) qs (positionalsOf c) (namedOf c) board
+
+-- how a call record ends against a list: 9 to 14, and then the same
+unfoldable pub boundTo : List Parameter → List ℕ → List ℕ → List ℕ → Outcome
+boundTo qs cells area board =
+    let c : Call = callOf cells area in
+    outcomeOf (askCall 64 cells area then askBoard 64 64 board then askBinding qs c) qs (positionalsOf c) (namedOf c) board
+
+-- the short path applies: as many values as there are parameters, all of them positional, and nothing else given
+abbrev pub isShort : ParametersSpec → Head → Bool
+isShort l h =
+    eqb (h .p) (l .indices .«num_positional») && (eqb (l .indices .«num_positional») (l .params .len) && (eqb (h .n) 0 && (eqb (h .starKind) 0 && eqb (h .doubleKind) 0)))
+
+-- a call that the short path is for, its values standing in a record
+pub record ShortCall (qs : List Parameter) (c : Call) (cells : List ℕ) (h : Head) : Type 0 where
+  pub all-positional : positionalCount qs ≡ length qs
+  pub as-many : h .p ≡ length qs
+  pub values : c .positionals ≡ valuesIn cells h 0 (h .p)
+  pub unnamed : c .named ≡ []
+  pub no-star : c .star ≡ noStar
+  pub no-double : c .double ≡ noDouble
+
+-- a call against a prepared list, and a board that passes 14
+pub record SlowReady (spec : List ℕ) (l : ParametersSpec) (cells area : List ℕ) (h : Head) (board : List ℕ) : Type 0 where
+  pub call : CallReady spec l cells area h (min (h .p + h .s) (l .indices .«num_positional»)) (callOf cells area)
+  pub long : 896 ≤ length board
