@@ -31,7 +31,7 @@ use Rattle.collector.specs.Resolved.{namedAt}
 use Rattle.collector.specs.Resolve.{Prepared}
 use Rattle.collector.specs.CanFill.{writtenIn, FillReady}
 
-name-inside : (area : List ℕ) (v : Value) → wellFormedName area v ≡ true → inside area (v .payload) ≡ true
+pub name-inside : (area : List ℕ) (v : Value) → wellFormedName area v ≡ true → inside area (v .payload) ≡ true
 unfolding wellFormedName isText
 name-inside area v e =
     and-left (inside area (v .payload)) (leb 1 (sizeOf (v .payload)))
@@ -39,7 +39,7 @@ name-inside area v e =
     (and-right (eqb (v .kind) callText) (inside area (v .payload) && leb 1 (sizeOf (v .payload)) && leb (sizeOf (v .payload)) 64) e))
 
 -- pairs that are consumed, as a list by index
-pairs-listed : {X : Type 0} (read : List ℕ → X) (cells : List ℕ) (from i n : ℕ) → readEach 4 read n (drop (from + 4 * i) cells) ≡ listed (λ k. read (drop (from + 4 * k) cells)) i n
+pub pairs-listed : {X : Type 0} (read : List ℕ → X) (cells : List ℕ) (from i n : ℕ) → readEach 4 read n (drop (from + 4 * i) cells) ≡ listed (λ k. read (drop (from + 4 * k) cells)) i n
 pairs-listed read cells from i zero = refl
 pairs-listed {X} read cells from i (suc n) =
     let e : from + 4 * i + 4 ≡ from + 4 * suc i = omega arith in
@@ -61,17 +61,20 @@ module _ (cells area : List ℕ) (h : Head) (read : h ≡ readHead cells) where
       from-first = omega arith
 
   module _ (passed : askForm 64 cells area ≡ fine) where
-    names-inside : (k : ℕ) → k < h .n → inside area (pairAt cells (namedFrom h + 4 * k) .payload) ≡ true
+    -- the name of written pair k
+    pub name-formed : (k : ℕ) → k < h .n → wellFormedName area (pairAt cells (namedFrom h + 4 * k)) ≡ true
     unfolding pairWidth
-    names-inside k below =
-        name-inside area (pairAt cells (namedFrom h + 4 * k))
-        (pair-name area cells (namedFrom h + 4 * k)
+    name-formed k below =
+        pair-name area cells (namedFrom h + 4 * k)
         (ap (wellFormedPair area) (sym (each-at pairWidth readPair cells (namedFrom h) (h .n) k anyPair below))
         ∙ all-at (wellFormedPair area) (pairsAt cells (namedFrom h) (h .n)) k anyPair (rw (each-length pairWidth readPair (h .n) (drop (namedFrom h) cells)) below)
-        (formed-named cells h read 64 (form-lengths 64 cells area passed) area (form-parts 64 cells area passed) .formed)))
+        (formed-named cells h read 64 (form-lengths 64 cells area passed) area (form-parts 64 cells area passed) .formed))
       where
         anyPair : Pair
         anyPair = readPair []
+
+    names-inside : (k : ℕ) → k < h .n → inside area (pairAt cells (namedFrom h + 4 * k) .payload) ≡ true
+    names-inside k below = name-inside area (pairAt cells (namedFrom h + 4 * k)) (name-formed k below)
 
     pub fill-ready : (spec : List ℕ) (l : ParametersSpec) → Prepared spec l → FillReady spec l cells area h
     fill-ready spec l list = record { list = list; few = lengths-few cells h read 64 (form-lengths 64 cells area passed); names-inside = names-inside }

@@ -19,3 +19,4 @@ pub mod LawsQuestions
 pub mod LawsFilling
 pub mod LawsCanFill
 pub mod LawsFillable
+pub mod LawsReady

@@ -1,0 +1,132 @@
+-- A call record that passes 9 to 13 is ready to be asked 15 to 24: its call's names, entries and values of P are what stands at the
+-- places that the code computes. `h` is the head that was read.
+-- Assumes nothing.
+use mathlib.Core.Path.{_≡_, sym, ap, ap₂, _∙_}
+use mathlib.Core.Bool.{true, _&&_}
+use mathlib.Core.List.{List, [], map}
+use Prim.Native.Nat.{ℕ, _+_, _*_, min, _≤_, _<_}
+use native.Mathlib.Omega.{arith}
+use lib.Dec.{leb, eqb}
+use lib.ListN.{length, drop, getD}
+use Rattle.rules.specs.Cells.{readEach}
+use Rattle.rules.specs.Text.{sizeOf, inside, isText, differ}
+use Rattle.rules.specs.Value.{Value, noValue, valueWidth, callText, wellFormedName, wellFormedKey}
+use Rattle.rules.specs.Answer.{fine}
+use Rattle.rules.specs.CallRecord.{Head, Pair, headWidth, pairWidth, readHead, readPair, readCall, namedIn, entryIn, callIn, entriesOf, positionalsOf}
+use Rattle.rules.specs.CallQuestions.{lengthsRight, kindsRight, wellFormedEntry, askForm, askCall}
+use Rattle.rules.specs.Binding.{textsOf}
+use Rattle.rules.specs.Collection.{callOf}
+use Rattle.rules.proofs.LawsListing.{and-left, map-map}
+use Rattle.cells.specs.Record.{pairAt}
+use Rattle.builder.specs.Listed.{listed}
+use Rattle.builder.specs.declared.spec.ParametersSpec.{ParametersSpec}
+use Rattle.calls.specs.Head.{Few, namedFrom, entriesFrom}
+use Rattle.calls.specs.Runs.{pairsAt}
+use Rattle.calls.proofs.LawsEach.{each-length, each-at, each-map, all-at}
+use Rattle.calls.proofs.LawsForm.{entry-key}
+use Rattle.calls.proofs.LawsCall.{names-by, lengths-few, formed-entries, form-lengths, form-kinds, form-parts, call-form, call-names}
+use Rattle.calls.proofs.LawsPlaces.{named-run, entries-run, positionals-length, star-passes, double-passes, positional-at}
+use Rattle.collector.specs.Resolved.{namedAt}
+use Rattle.collector.specs.Resolve.{Prepared, Pairs}
+use Rattle.collector.specs.EntriesDone.{writtenNames, entryAt, entriesIn}
+use Rattle.collector.specs.Board.{positionalAt}
+use Rattle.collector.specs.Questions.{CallReady}
+use Rattle.collector.proofs.LawsFillable.{name-inside, pairs-listed, name-formed}
+
+-- ---- runs of pairs, by index
+
+run-listed : {X : Type 0} (f : Pair → X) (cells : List ℕ) (from n : ℕ) → map f (pairsAt cells from n) ≡ listed (λ k. f (readPair (drop (from + 4 * k) cells))) 0 n
+unfolding pairWidth
+run-listed f cells from n =
+    each-map pairWidth readPair f n (drop from cells) ∙ ap (λ m. readEach 4 (λ l. f (readPair l)) n (drop m cells)) from-first ∙ pairs-listed (λ l. f (readPair l)) cells from 0 n
+  where
+    from-first : from ≡ from + 4 * 0
+    from-first = omega arith
+
+-- ---- a name that is well formed, and where the names begin
+
+name-text : (area : List ℕ) (v : Value) → wellFormedName area v ≡ true → eqb (v .kind) callText ≡ true
+unfolding wellFormedName isText
+name-text area v e = and-left (eqb (v .kind) callText) (inside area (v .payload) && leb 1 (sizeOf (v .payload)) && leb (sizeOf (v .payload)) 64) e
+
+named-near : (h : Head) → Few 64 h → namedFrom h ≤ 1024
+unfolding namedFrom headWidth valueWidth
+named-near h few = omega (arith, few .few-p)
+
+module _ (cells area : List ℕ) (h : Head) (read : h ≡ readHead cells) (passed : askCall 64 cells area ≡ fine) where
+  form : askForm 64 cells area ≡ fine
+  form = call-form 64 cells area passed
+
+  nine : lengthsRight 64 cells ≡ true
+  nine = form-lengths 64 cells area form
+
+  ten : kindsRight (readCall cells) ≡ true
+  ten = form-kinds 64 cells area form
+
+  few : Few 64 h
+  few = lengths-few cells h read 64 nine
+
+  written : callIn area (readCall cells) .named ≡ writtenNames area cells h
+  unfolding namedAt
+  written = named-run area cells h read ten ∙ run-listed (namedIn area) cells (namedFrom h) (h .n)
+
+  pairs : Pairs area cells (namedFrom h) (h .n)
+  pairs =
+      record {
+        few = few .few-n;
+        near = named-near h few;
+        named = λ k below.
+            record {
+              near = omega (arith, named-near h few, few .few-n);
+              text = name-text area (pairAt cells (namedFrom h + 4 * k)) (name-formed cells area h read form k below);
+              inside = name-inside area (pairAt cells (namedFrom h + 4 * k)) (name-formed cells area h read form k below);
+            };
+      }
+
+  apart : differ (textsOf (writtenNames area cells h)) ≡ true
+  unfolding textsOf
+  apart =
+      ap (λ vs. differ (textsOf vs)) (sym written ∙ named-run area cells h read ten)
+      ∙ ap differ (map-map (namedIn area) (λ v. v .name) (pairsAt cells (namedFrom h) (h .n)))
+      ∙ sym (names-by cells h read area)
+      ∙ call-names 64 cells area passed
+
+  entries : entriesOf (callIn area (readCall cells) .double) ≡ entriesIn area cells (entriesFrom h) 0 (h .d)
+  unfolding entryAt
+  entries = entries-run area cells h read ten ∙ run-listed (entryIn area) cells (entriesFrom h) (h .d)
+
+  keys-formed : (k : ℕ) → k < h .d → wellFormedKey area (pairAt cells (entriesFrom h + 4 * k)) ≡ true
+  unfolding pairWidth
+  keys-formed k below =
+      entry-key area cells (entriesFrom h + 4 * k)
+      (ap (wellFormedEntry area) (sym (each-at pairWidth readPair cells (entriesFrom h) (h .d) k anyPair below))
+      ∙ all-at (wellFormedEntry area) (pairsAt cells (entriesFrom h) (h .d)) k anyPair (rw (each-length pairWidth readPair (h .d) (drop (entriesFrom h) cells)) below)
+      (formed-entries cells h read 64 nine area (form-parts 64 cells area form) .formed))
+    where
+      anyPair : Pair
+      anyPair = readPair []
+
+  long : length (positionalsOf (callIn area (readCall cells))) ≡ h .p + h .s
+  long = positionals-length area cells h read ten
+
+  values : (k : ℕ) → k < length (positionalsOf (callIn area (readCall cells))) → getD (positionalsOf (callIn area (readCall cells))) k noValue ≡ positionalAt cells h k
+  unfolding positionalAt pairAt
+  values k below = positional-at area cells h read ten 64 nine k noValue (rw long at below)
+
+  pub call-ready : (spec : List ℕ) (l : ParametersSpec) → Prepared spec l → (next : ℕ) → next ≡ min (h .p + h .s) (l .indices .«num_positional») → CallReady spec l cells area h next (callOf cells area)
+  unfolding callOf
+  call-ready spec l list next upto =
+      record {
+        list = list;
+        few = few;
+        star = star-passes area cells h read ten;
+        double = double-passes area cells h read ten;
+        written = written;
+        pairs = pairs;
+        apart = apart;
+        entries = entries;
+        keys-formed = keys-formed;
+        long = long;
+        values = values;
+        upto = upto ∙ ap₂ min (sym long) (list .is-list .positional);
+      }
