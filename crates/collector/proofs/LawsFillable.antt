@@ -46,7 +46,7 @@ pairs-listed {X} read cells from i (suc n) =
     ap {B = List X} (λ rest. read (drop (from + 4 * i) cells) ∷ rest) (rw (drop-drop, e) (pairs-listed read cells from (suc i) n))
 
 module _ (cells area : List ℕ) (h : Head) (read : h ≡ readHead cells) where
-  positionals-are : length (readCall cells .positionals) ≡ h .p
+  pub positionals-are : length (readCall cells .positionals) ≡ h .p
   positionals-are = ap length (call-positionals cells h read) ∙ each-length valueWidth readValue (h .p) (drop headWidth cells)
 
   written-are : map (λ p. namedIn area p .name .bytes) (readCall cells .named) ≡ writtenIn area cells h

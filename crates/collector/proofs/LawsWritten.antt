@@ -118,7 +118,7 @@ module _ (l : ParametersSpec) (cells : List ℕ) (h : Head) (next : ℕ) (source
 -- ---- what placement gives
 
 -- a list by its elements
-elements : {X : Type 0} (f : ℕ → X) (d : X) (i : ℕ) (xs : List X) → ((k : ℕ) → k < length xs → getD xs k d ≡ f (i + k)) → xs ≡ listed f i (length xs)
+pub elements : {X : Type 0} (f : ℕ → X) (d : X) (i : ℕ) (xs : List X) → ((k : ℕ) → k < length xs → getD xs k d ≡ f (i + k)) → xs ≡ listed f i (length xs)
 elements f d i [] each = refl
 elements {X} f d i (x ∷ xs) each =
     ap₂ {C = List X} (λ y ys. y ∷ ys) (each 0 (omega arith) ∙ ap f (add-zero i))

@@ -20,3 +20,4 @@ pub mod LawsFilling
 pub mod LawsCanFill
 pub mod LawsFillable
 pub mod LawsReady
+pub mod LawsEnds

@@ -79,11 +79,19 @@ fn is_short(list: ParametersSpec, h: Head) -> bool
     ensures { λ r. ⌜ r ≡ isShort list (headOf h) ⌝ }
 {
     let positional = list.indices.num_positional;
-    h.p == positional
-        && positional == list.params.len
-        && h.n == 0
-        && h.star_kind == 0
-        && h.double_kind == 0
+    if h.p != positional {
+        return false;
+    }
+    if positional != list.params.len {
+        return false;
+    }
+    if h.n != 0 {
+        return false;
+    }
+    if h.star_kind != 0 {
+        return false;
+    }
+    h.double_kind == 0
 }
 
 // The short path: each value is its parameter's slot.
