@@ -31,7 +31,7 @@ ghost use Rattle.collector.specs.Collect.{Ends, bindingOf, boundTo, isSh
 pub const BOARD: usize = 896;
 
 // The records as they are lent, of any cells and bytes: the list is built, and the call bound against it.
-pub(crate) fn collect(
+pub fn collect(
     spec_cells: &[u64],
     spec: &[u8],
     call_cells: &[u64],
