@@ -1,0 +1,2 @@
+-- What playing a cut of P and N promises.
+pub mod Record
