@@ -1,4 +1,5 @@
 -- Laws of cuts, by subject.
-pub mod LawsBoard
 pub mod LawsRun
 pub mod LawsWrite
+pub mod LawsPlay
+pub mod LawsDemand

@@ -26,7 +26,7 @@ pub struct Cut {
 pub const CELLS: usize = 390;
 
 // The record of a cut, stored from cell 0 on: behind the head the fronts of P and N, then what is left of each.
-pub(crate) fn write_cut<'a>(positionals: &'a [u64], named: &'a [u64], cut: Cut, out: &mut [u64])
+pub(crate) fn write_cut(positionals: &[u64], named: &[u64], cut: Cut, out: &mut [u64])
     requires { ⌜ Fits (now positionals) (now named) (cutOf cut) × (390 ≤ length (now out)) ⌝ }
     ensures { λ r. ⌜ now (out .exit) ≡ over (encodeCall (cutRecord (valuesOf (now (positionals .entry))) (pairsOf (now (named .entry))) (cutOf cut))) (now (out .entry)) ⌝ }
 {

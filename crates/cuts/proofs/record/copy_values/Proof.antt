@@ -1,5 +1,5 @@
 use Rattle.cuts.proofs.LawsRun.{stored-more}
-use Rattle.cuts.proofs.LawsBoard.{stored-none}
+use Rattle.collector.proofs.LawsBoard.{stored-none}
 use Rattle.cuts.specs.Record.{runOf}
 use Rattle.cells.specs.Out.{stored}
 use Rattle.rules.specs.Value.{valueCells}

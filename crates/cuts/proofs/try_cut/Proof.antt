@@ -1,0 +1,69 @@
+use Rattle.cuts.proofs.LawsPlay.{outside-ended, collectedIn, fillingOf}
+use Rattle.cuts.specs.Play.{recordsPass, Tried}
+use Rattle.collector.specs.Collect.{Ends}
+use Rattle.collector.specs.CanFill.{fillingIn}
+use Rattle.rules.specs.CanFill.{fillable}
+use Rattle.rules.specs.Collection.{collection}
+use borrow.Author.Tests.{not-true, not-false}
+use mathlib.Core.Path.{_≡_, refl, sym, ap, subst, _∙_}
+use borrow.Author.Needs.{needs}
+use Rattle.cuts.proofs.try_cut.Statement.{statement}
+use Rattle.cuts.proofs.try_cut.Tie as tie
+use Rattle.cuts.proofs.try_cut.Reads as reads
+use Rattle.cuts.proofs.try_cut.Lts as lts
+use Rattle.collector.proofs.can_fill.can_fill_with_args.Reads as can-fill-with-args-reads
+use Rattle.collector.proofs.collect.collect.Reads as collect-reads
+use Rattle.cuts.proofs.records_pass.Reads as records-pass-reads
+
+-- src/lib.rt:86:9
+records-pass-requires : tie.Need-records-pass-requires
+records-pass-requires c κs = search needs
+
+-- src/lib.rt:87:9
+returns : tie.Need-returns
+returns c =
+    record {
+      outside = λ z. sym (c .before .records-pass .ensures) ∙ not-true _ (c .if1 .taken);
+      untouched = λ z. refl;
+      passed = λ e f z. outside-ended e f z;
+      collected = λ e f z. outside-ended e f z;
+      filling = λ e f z. outside-ended e f z;
+    }
+
+-- src/lib.rt:89:9
+can-fill-with-args-requires : tie.Need-can-fill-with-args-requires
+can-fill-with-args-requires c κs = search needs
+
+-- src/lib.rt:90:9
+collect-requires : tie.Need-collect-requires
+collect-requires c κs = search needs
+
+-- src/lib.rt:76:1
+same-length : tie.Need-same-length
+same-length c = search needs
+
+-- src/lib.rt:76:1
+returns-2 : tie.Need-returns-2
+returns-2 c =
+    let asked = c .before .before .before .before .before .before in
+    let a = c .before .before .before .before .before .before .before .before .before .before .before .before .before .args in
+    let o = c .before .before .collect in
+    let f = c .before .before .before .before .can-fill-with-args in
+    record {
+      outside = λ z. outside-ended (o .result) (f .result) (sym z);
+      untouched = λ z. outside-ended (o .result) (f .result) (sym z);
+      passed = λ x y z. sym (asked .records-pass .ensures) ∙ not-false _ (c .before .before .before .before .before .if1 .left);
+      collected = λ x y z. subst (Ends (collection 64 64 (a .spec-cells .now) (a .spec .now) (a .cells .now) (a .area .now) (a .board .now)) (a .board .now) (o .last .1 .1 .1 .1 .0)) (ap (collectedIn (o .result)) z) (o .ensures);
+      filling = λ x y z. subst (λ g. fillingIn g ≡ fillable 64 64 (a .spec-cells .now) (a .spec .now) (a .whole .now) (a .area .now)) (ap (fillingOf (f .result)) z) (f .ensures);
+    }
+
+pub try-cut-spec : {M : Type 1} → statement M
+try-cut-spec =
+    tie.close
+    (tie.spec
+    records-pass-requires
+    returns
+    can-fill-with-args-requires
+    collect-requires
+    same-length
+    returns-2)
