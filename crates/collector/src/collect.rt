@@ -50,7 +50,7 @@ pub fn collect(
 }
 
 // A call against a list that was built before: a gateway binds all day against one. What it requires, `build` promises of each list.
-pub(crate) fn bind(
+pub fn bind(
     list: ParametersSpec,
     spec: &[u8],
     cells: &[u64],
