@@ -88,7 +88,7 @@ pub fn same_filling(numbers: &[u64], at: &mut usize, place: Place, filling: CanF
     }
 }
 
-fn bit(b: bool) -> u64 {
+pub fn bit(b: bool) -> u64 {
     if b {
         return 1;
     }

@@ -2,6 +2,7 @@
 // name's bytes, and every cell of the board. The crate's standard input has the cases, and its head says how it is laid out and where
 // they come from. A line names each difference; the last lines count the cases.
 mod compare;
+mod cut;
 mod ending;
 mod numbers;
 mod play;

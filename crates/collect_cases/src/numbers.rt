@@ -121,7 +121,7 @@ pub fn counted<'a>(numbers: &'a [u64], at: &mut usize) -> &'a [u64] {
     from_to(numbers, from, n)
 }
 
-fn from_to<'a>(numbers: &'a [u64], from: usize, n: usize) -> &'a [u64] {
+pub fn from_to<'a>(numbers: &'a [u64], from: usize, n: usize) -> &'a [u64] {
     let most = numbers.len();
     if most < n {
         return &numbers[..0];

@@ -3,6 +3,7 @@ use crate::compare::Place;
 use crate::compare::filled;
 use crate::compare::same_board;
 use crate::compare::same_name;
+use crate::cut::same_cut;
 use crate::ending::ending_of;
 use crate::ending::same_ending;
 use crate::ending::same_filling;
@@ -18,7 +19,7 @@ use collector::detail::name_of;
 // Room for an area whose last text starts as far on as a text can start, and for a board with cells to spare.
 const AREA: usize = 65792;
 
-const BOARD: usize = 1024;
+pub const BOARD: usize = 1024;
 
 // A case that was played: its cuts, whether 16 refused some of them and 19 others, and whether anything differed.
 pub struct Played {
@@ -90,7 +91,7 @@ fn play_records<'a>(
     }
 }
 
-// Every cut of a call.
+// Every cut of a call, each collected from its own record and then once more from P and N, as that record has them.
 fn play_cuts<'a>(
     numbers: &[u64],
     at: &mut usize,
@@ -108,7 +109,7 @@ fn play_cuts<'a>(
     while k < cuts {
         let cells = counted(numbers, at);
         let here = at_cut(place, k);
-        let one = play_call(numbers, at, here, spec_cells, spec, cells, call, lent);
+        let one = play_both(numbers, at, here, spec_cells, spec, cells, call, lent);
         sixteen = either(sixteen, one.number == 16);
         nineteen = either(nineteen, one.number == 19);
         differs = either(differs, !one.same);
@@ -118,6 +119,35 @@ fn play_cuts<'a>(
         cuts,
         repeat: sixteen && nineteen,
         differs,
+    }
+}
+
+// One cut, from its own record and from P and N: the same is expected of both.
+fn play_both<'a>(
+    numbers: &[u64],
+    at: &mut usize,
+    place: Place,
+    spec_cells: &[u64],
+    spec: &'a [u8],
+    cells: &[u64],
+    call: &'a [u8],
+    lent: Lent,
+) -> One {
+    let mut expected = *at;
+    let one = play_call(numbers, at, place, spec_cells, spec, cells, call, lent);
+    let again = same_cut(
+        numbers,
+        &mut expected,
+        place,
+        spec_cells,
+        spec,
+        cells,
+        call,
+        lent.fill,
+    );
+    One {
+        number: one.number,
+        same: one.same && again,
     }
 }
 
@@ -157,7 +187,7 @@ fn play_call<'a>(
     }
 }
 
-fn fill_board(fill: u64, board: &mut [u64]) {
+pub fn fill_board(fill: u64, board: &mut [u64]) {
     let mut i = 0;
     while i < board.len() {
         board[i] = filled(fill, i);

@@ -20,8 +20,8 @@ counted-requires c κs = search needs
 at-cut-requires : tie.Need-at-cut-requires Inv-loop μ-loop
 at-cut-requires c κs = search needs
 
-play-call-requires : tie.Need-play-call-requires Inv-loop μ-loop
-play-call-requires c κs = search needs
+play-both-requires : tie.Need-play-both-requires Inv-loop μ-loop
+play-both-requires c κs = search needs
 
 either-requires : tie.Need-either-requires Inv-loop μ-loop
 either-requires c κs = search needs
@@ -56,7 +56,7 @@ play-cuts-spec =
     loop-holds
     counted-requires
     at-cut-requires
-    play-call-requires
+    play-both-requires
     either-requires
     either-requires-2
     either-requires-3
