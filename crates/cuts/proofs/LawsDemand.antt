@@ -13,13 +13,12 @@ use Rattle.rules.specs.Listing.{all}
 use Rattle.rules.specs.Cells.{over}
 use Rattle.rules.specs.Text.{differ}
 use Rattle.rules.specs.Value.{Value, valueWidth, readValue, wellFormedArgument}
-use Rattle.rules.specs.Answer.{fine}
 use Rattle.rules.specs.CallRecord.{Pair, pairWidth, readPair, encodeCall, namedIn}
 use Rattle.rules.specs.ParameterQuestions.{askParameters}
 use Rattle.rules.specs.CallQuestions.{wellFormedPair, askCall}
 use Rattle.rules.specs.Binding.{textsOf}
-use Rattle.rules.specs.Board.{boardLeast, boardLeast-64}
-use Rattle.rules.specs.Collection.{Outcome, boardLeft, collection}
+use Rattle.rules.specs.Board.{boardLeast-64}
+use Rattle.rules.specs.Collection.{boardLeft, collection}
 use Rattle.rules.specs.CanFill.{answered, fillable}
 use Rattle.rules.specs.Demand3.{Cut, cutRecord, wholeRecord, merge, isAccepted, Domain, Demand3, ending}
 use Rattle.rules.proofs.LawsListing.{and-left, and-right, and-no-left}
@@ -33,7 +32,7 @@ use Rattle.collector.specs.declared.can_fill.CanFill.{CanFill}
 use Rattle.cuts.specs.Record.{valuesOf, pairsOf, headCells, runOf, Fits}
 use Rattle.cuts.specs.Play.{passes, sizesRight, passing, inDomain, Demanded, Playing, recordsPass, Tried}
 use Rattle.cuts.specs.declared.Played.{Played}
-use Rattle.cuts.specs.declared.Played.the-variants.{Outside, Ended}
+use Rattle.cuts.specs.declared.Played.the-variants.{Outside}
 use Rattle.cuts.proofs.LawsRun.{run-length}
 use Rattle.cuts.proofs.LawsWrite.{cut-cells}
 use Rattle.cuts.proofs.LawsPlay.{outside-ended, passes-fine, whole-formed, whole-passes}
@@ -161,6 +160,7 @@ module _ (specCells specBytes positionals named callBytes : List ℕ) (c : Cut) 
         outside = λ z.
             and-no-left (sizesRight (length positionals) (length named) c) (passing specCells specBytes (valuesOf positionals) (pairsOf named) callBytes (length before)) e;
         untouched = λ z. refl;
+        inside = λ x y z. outside-ended x y z;
         ended = λ x y z. outside-ended x y z;
       }
 
@@ -234,6 +234,7 @@ module _ (specCells specBytes positionals named callBytes : List ℕ) (c : Cut) 
         record {
           outside = λ z. tested ∙ sym asked ∙ tried .outside z;
           untouched = λ z. tried .untouched z;
+          inside = λ x y z. tested ∙ sym asked ∙ tried .passed x y z;
           ended = λ x y z.
               demanded after x y (domain (sym asked ∙ tried .passed x y z))
               (subst (λ l. Ends (collection 64 64 specCells specBytes l callBytes before) before after x) is-cut (tried .collected x y z))

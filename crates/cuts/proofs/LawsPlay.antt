@@ -1,7 +1,7 @@
 -- Laws of playing a cut: what was answered can be told apart, and the questions that the code asks of P and N written out whole are the ones
 -- that demand 3's domain asks of P and N. Assumes nothing.
 use mathlib.Core.Path.{_≡_, refl, sym, ap, _∙_}
-use mathlib.Core.Bool.{Bool, true, false, _&&_}
+use mathlib.Core.Bool.{true, _&&_}
 use mathlib.Core.List.{List, map}
 use Prim.Native.Nat.{ℕ, _≤_}
 use native.Mathlib.Omega.{arith}

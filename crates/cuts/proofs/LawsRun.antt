@@ -1,7 +1,7 @@
 -- Runs of values and pairs in lent cells (01, cells, texts and records), as a cut writes them. In this order: how many cells a run takes, a run
 -- with one value more, its first things and the rest of them, and pairs as values. Assumes nothing.
-use mathlib.Core.Path.{_≡_, refl, sym, ap, ap₂, _∙_}
-use mathlib.Core.List.{List, [], _∷_, _++_, append-assoc, append-nil}
+use mathlib.Core.Path.{_≡_, refl, sym, ap, _∙_}
+use mathlib.Core.List.{List, _∷_, _++_, append-assoc, append-nil}
 use Prim.Native.Nat.{ℕ, zero, suc, _+_, _-_, _*_, _≤_}
 use native.Mathlib.Nat.{mul-suc}
 use native.Mathlib.Numerals.{add-one}
@@ -9,8 +9,8 @@ use native.Mathlib.Omega.{arith}
 use lib.ListN.{length, take, drop}
 use lib.Seq.{drop-drop}
 use Rattle.rules.specs.Cells.{readEach, writeEach}
-use Rattle.rules.specs.Value.{Value, valueWidth, valueCells, readValue}
-use Rattle.rules.specs.CallRecord.{Pair, pairWidth, pairCells, readPair}
+use Rattle.rules.specs.Value.{valueWidth, valueCells, readValue}
+use Rattle.rules.specs.CallRecord.{pairWidth, pairCells, readPair}
 use Rattle.rules.proofs.LawsRecord.{length-writeEach, valueCells-wide}
 use Rattle.cells.specs.Out.{stored}
 use Rattle.cells.specs.Record.{pairAt}

@@ -1,23 +1,22 @@
 -- Laws of writing a cut's record: the head, and behind it four runs, are the cells that `rules` gives the cut.
 -- Assumes nothing.
 use mathlib.Core.Path.{_≡_, refl, sym, ap, ap₂, _∙_}
-use mathlib.Core.Bool.{Bool, true, false, cond, _||_}
+use mathlib.Core.Bool.{Bool, true, false, cond}
 use mathlib.Core.List.{List, [], _∷_, _++_, append-assoc}
 use Prim.Native.Nat.{ℕ, zero, suc, _+_, _-_, _*_, _/_, _≤_}
 use native.Mathlib.Omega.{arith}
-use lib.Dec.{ltb}
 use lib.ListN.{length, take, drop, length-append}
 use borrow.Author.Tests.{lt-ltb}
 use Rattle.rules.specs.Cells.{readEach, writeEach, over}
 use Rattle.rules.specs.Value.{Value, valueWidth, valueCells, readValue}
-use Rattle.rules.specs.CallRecord.{Pair, CallRecord, pairWidth, pairCells, readPair, encodeCall}
+use Rattle.rules.specs.CallRecord.{CallRecord, pairWidth, pairCells, readPair, encodeCall}
 use Rattle.rules.specs.Demand3.{Cut, restKind, cutRecord}
 use Rattle.cells.specs.Out.{stored}
 use Rattle.cells.specs.Value.{value}
 use Rattle.cells.proofs.LawsOut.{stored-over}
 use Rattle.calls.proofs.LawsEach.{each-length}
 use Rattle.cuts.specs.Record.{valuesOf, pairsOf, kindOf, headCells, runOf, Fits}
-use Rattle.cuts.proofs.LawsRun.{run-length, take-each, drop-each, pairs-values}
+use Rattle.cuts.proofs.LawsRun.{take-each, drop-each, pairs-values}
 
 -- ---- the head
 

@@ -73,14 +73,16 @@ module _ (specCells specBytes callBytes : List ℕ) (P : List Value) (N : List P
 
 -- P and N are what `positionals` and `named` hold
 pub record Playing (specCells specBytes positionals named callBytes : List ℕ) (c : Cut) (before after : List ℕ) (r : Played) : Type 0 where
-  -- nothing is played only where demand 3 does not speak, or the cut is none of P and N
+  -- `Outside` is answered only where demand 3 does not speak, or where the cut is none of P and N
   pub outside : r ≡ Outside → inDomain specCells specBytes positionals named callBytes c before ≡ false
   -- and then nothing is written
   pub untouched : r ≡ Outside → after ≡ before
-  -- otherwise all of demand 3 holds of what is returned
+  -- what is played lies inside
+  pub inside : (e : Collected) (f : CanFill) → r ≡ Ended e f → inDomain specCells specBytes positionals named callBytes c before ≡ true
+  -- and all of demand 3 holds of what is returned
   pub ended : (e : Collected) (f : CanFill) → r ≡ Ended e f → Demanded specCells specBytes callBytes (valuesOf positionals) (pairsOf named) c before after (told e after) f
 
--- ---- inside
+-- ---- what the inner functions promise
 
 -- the same questions, put to the record of P and N written out whole
 abbrev pub recordsPass : List ℕ → List ℕ → List ℕ → List ℕ → ℕ → Bool

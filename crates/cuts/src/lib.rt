@@ -8,6 +8,7 @@ use cells::answer::Answer;
 use collector::answer::Collected;
 use collector::can_fill::CanFill;
 use collector::can_fill::can_fill_with_args;
+use collector::collect::BOARD;
 use collector::collect::collect;
 use record::CELLS;
 use record::Cut;
@@ -18,16 +19,13 @@ ghost use Rattle.cuts.specs.Play.{sizesRight, recordsPass, Tried, Playin
 
 pub mod record;
 
-// A board holds 64 slots, a star remainder of 128 values and a named remainder of 128 pairs.
-const BOARD: usize = 896;
-
-// Outside of what demand 3 speaks of nothing is played; inside, how collection ends and what can-fill foretells.
+// Where demand 3 does not speak nothing is played; where it does, how collection ends and what can-fill foretells.
 pub enum Played {
     Outside,
     Ended(Collected, CanFill),
 }
 
-// The cells and bytes are any that are lent: `positionals` holds P, two cells a value, and `named` N, four cells a pair.
+// One cut, of any cells and bytes that are lent: `positionals` holds P, two cells a value, and `named` N, four cells a pair.
 pub fn play(
     spec_cells: &[u64],
     spec: &[u8],

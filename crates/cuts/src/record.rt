@@ -37,6 +37,7 @@ pub(crate) fn write_cut(positionals: &[u64], named: &[u64], cut: Cut, out: &mut 
     let named_at = HEAD + front_p;
     let items_at = named_at + front_n;
     let entries_at = items_at + VALUE * s;
+    // a pair is copied as two values
     let front = 2 * cut.at_n;
     let rest = 2 * d;
     write_head(cut, s, d, out);
@@ -73,7 +74,7 @@ fn rest_kind(given: bool, count: usize) -> u64
     0
 }
 
-// `count` values that stand from cell `from` on, stored from cell `at` on. A pair is two values.
+// `count` values that stand from cell `from` on, stored from cell `at` on.
 fn copy_values(cells: &[u64], from: usize, count: usize, out: &mut [u64], at: usize)
     requires { ⌜ (from + 2 * count ≤ length (now cells)) × (at + 2 * count ≤ length (now out)) ⌝ }
     ensures { λ r. ⌜ now (out .exit) ≡ stored (now (out .entry)) at (runOf (now (cells .entry)) from count) ⌝ }

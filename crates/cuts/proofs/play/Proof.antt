@@ -1,22 +1,18 @@
-use lib.ListN.{take}
+-- `cuts::play` meets its contract: the parts of the two arrays that were written are the two records, and of these demand 3 holds.
+-- Assumes nothing.
 use mathlib.Core.Bool.{true}
-use Rattle.cuts.proofs.LawsDemand.{wholeCut, sizes-fit, whole-fits, few-cells, part-cells, whole-cells, play-outside, play-tried}
+use mathlib.Core.Path.{_≡_, sym, _∙_}
+use Prim.Native.Nat.{_+_, _≤_}
+use native.Mathlib.Omega.{arith}
+use lib.Seq.{length-take-le}
+use lib.ListN.{length, take}
+use borrow.Author.Tests.{not-true, not-false}
+use borrow.Author.Needs.{needs}
 use Rattle.cuts.specs.Play.{sizesRight}
 use Rattle.cuts.specs.Record.{cutOf, Fits}
-use borrow.Author.Tests.{not-true, not-false}
-use lib.Seq.{length-take-le}
-use lib.ListN.{length}
-use native.Mathlib.Omega.{arith}
-use Prim.Native.Nat.{_+_, _≤_}
-use mathlib.Core.Path.{_≡_, sym, ap, _∙_}
-use borrow.Author.Needs.{needs}
+use Rattle.cuts.proofs.LawsDemand.{wholeCut, sizes-fit, whole-fits, few-cells, part-cells, whole-cells, play-outside, play-tried}
 use Rattle.cuts.proofs.play.Statement.{statement}
 use Rattle.cuts.proofs.play.Tie as tie
-use Rattle.cuts.proofs.play.Reads as reads
-use Rattle.cuts.proofs.play.Lts as lts
-use Rattle.cuts.proofs.record.write_cut.Reads as write-cut-reads
-use Rattle.cuts.proofs.sizes_right.Reads as sizes-right-reads
-use Rattle.cuts.proofs.try_cut.Reads as try-cut-reads
 
 -- the sizes passed their test
 sized : (c : tie.Else1) → let a = c .before .before .before .before .before .before .before .before .args in sizesRight (length (a .positionals .now)) (length (a .named .now)) (cutOf (a .cut)) ≡ true
@@ -40,70 +36,55 @@ cut-room c =
     let kept : length (c .before .write-cut2 .last .1 .1 .1 .0) ≡ 390 = c .before .write-cut2 .kept .1 .1 .1 .0 in
     omega (arith, kept, few-cells (a .positionals .now) (a .named .now) (cutOf (a .cut)) (fitting (c .before .before .before .before .before .before)))
 
--- src/lib.rt:46:9
 sizes-right-requires : tie.Need-sizes-right-requires
 sizes-right-requires c κs = search needs
 
--- src/lib.rt:47:9
 returns : tie.Need-returns
 returns c =
     let a = c .before .before .before .before .before .before .before .before .args in
     play-outside (a .spec-cells .now) (a .spec .now) (a .positionals .now) (a .named .now) (a .area .now) (cutOf (a .cut)) (a .board .now)
     (sym (c .before .sizes-right .ensures) ∙ not-true _ (c .if1 .taken))
 
--- src/lib.rt:56:42
 slice-aggregate-write-cut : tie.Need-slice-aggregate-write-cut
 slice-aggregate-write-cut c = search needs
 
--- src/lib.rt:56:5
 write-cut-requires : tie.Need-write-cut-requires
 write-cut-requires c κs =
     let a = c .before .before .before .before .before .before .before .before .before .args in
     (whole-fits (a .positionals .now) (a .named .now) (cutOf (a .cut)) (fitting (c .before)), omega arith)
 
--- src/lib.rt:58:40
 slice-aggregate-write-cut-2 : tie.Need-slice-aggregate-write-cut-2
 slice-aggregate-write-cut-2 c = search needs
 
--- src/lib.rt:58:5
 write-cut-requires-2 : tie.Need-write-cut-requires-2
 write-cut-requires-2 c κs =
     let a = c .before .before .before .before .before .before .before .before .before .before .before .before .args in
     (fitting (c .before .before .before .before), omega arith)
 
--- src/lib.rt:59:15
 add-len : tie.Need-add-len
 add-len c = search needs
 
--- src/lib.rt:59:15
 add-len-2 : tie.Need-add-len-2
 add-len-2 c = search needs
 
--- src/lib.rt:60:31
 array-share-prefix-whole-cells : tie.Need-array-share-prefix-whole-cells
 array-share-prefix-whole-cells c = whole-room c
 
--- src/lib.rt:60:31
 slice-aggregate-try-cut : tie.Need-slice-aggregate-try-cut
 slice-aggregate-try-cut c = sym (length-take-le _ _ (whole-room (c .before)))
 
--- src/lib.rt:60:52
 array-share-prefix-cut-cells : tie.Need-array-share-prefix-cut-cells
 array-share-prefix-cut-cells c = cut-room (c .before)
 
--- src/lib.rt:60:52
 slice-aggregate-try-cut-2 : tie.Need-slice-aggregate-try-cut-2
 slice-aggregate-try-cut-2 c = sym (length-take-le _ _ (cut-room (c .before .before)))
 
--- src/lib.rt:60:5
 try-cut-requires : tie.Need-try-cut-requires
 try-cut-requires c κs = search needs
 
--- src/lib.rt:33:1
 same-length : tie.Need-same-length
 same-length c = search needs
 
--- src/lib.rt:33:1
 returns-2 : tie.Need-returns-2
 returns-2 c =
     let tried = c .before .before in

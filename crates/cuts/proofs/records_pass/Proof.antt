@@ -1,40 +1,28 @@
-use Rattle.cells.specs.Answer.{answerOf}
-use Rattle.rules.specs.CallQuestions.{askCall}
-use Rattle.rules.specs.ParameterQuestions.{askParameters}
-use Rattle.rules.specs.Answer.{fine, refuse, none}
-use mathlib.Core.Path.{_≡_, sym, ap, _∙_}
+-- `cuts::records_pass` meets its contract: each answer rewrites with what was asked before it. Assumes nothing.
+use mathlib.Core.Path.{sym, ap, _∙_}
 use borrow.Author.Needs.{needs}
+use Rattle.cells.specs.Answer.{answerOf}
 use Rattle.cuts.proofs.records_pass.Statement.{statement}
 use Rattle.cuts.proofs.records_pass.Tie as tie
-use Rattle.cuts.proofs.records_pass.Reads as reads
-use Rattle.cuts.proofs.records_pass.Lts as lts
-use Rattle.builder.proofs.build.Reads as build-reads
-use Rattle.calls.proofs.ask_call.Reads as ask-call-reads
 
--- src/lib.rt:104:9
 build-requires : tie.Need-build-requires
 build-requires c κs = search needs
 
--- src/lib.rt:107:9
 enum-told : tie.Need-enum-told
 enum-told c = search needs
 
--- src/lib.rt:107:9
 returns : tie.Need-returns
 returns c = rw (sym (c .before .before .build .ensures .answer) ∙ ap answerOf (c .enum-told .given .1))
 
 enum-told-2 : tie.Need-enum-told-2
 enum-told-2 c = search needs
 
--- src/lib.rt:109:9
 ask-call-requires : tie.Need-ask-call-requires
 ask-call-requires c κs = search needs
 
--- src/lib.rt:111:9
 enum-told-3 : tie.Need-enum-told-3
 enum-told-3 c = search needs
 
--- src/lib.rt:111:9
 returns-2 : tie.Need-returns-2
 returns-2 c =
     let built = c .before .before .before .before .before in
@@ -43,7 +31,6 @@ returns-2 c =
 enum-told-4 : tie.Need-enum-told-4
 enum-told-4 c = search needs
 
--- src/lib.rt:95:1
 returns-3 : tie.Need-returns-3
 returns-3 c =
     let built = c .before .before .before .before .before in

@@ -1,25 +1,18 @@
-use Rattle.cuts.proofs.LawsPlay.{outside-ended, collectedIn, fillingOf}
-use Rattle.cuts.specs.Play.{recordsPass, Tried}
-use Rattle.collector.specs.Collect.{Ends}
-use Rattle.collector.specs.CanFill.{fillingIn}
+-- `cuts::try_cut` meets its contract: what collection and can-fill promise is handed on. Assumes nothing.
+use mathlib.Core.Path.{_≡_, refl, sym, ap, subst, _∙_}
+use borrow.Author.Tests.{not-true, not-false}
+use borrow.Author.Needs.{needs}
 use Rattle.rules.specs.CanFill.{fillable}
 use Rattle.rules.specs.Collection.{collection}
-use borrow.Author.Tests.{not-true, not-false}
-use mathlib.Core.Path.{_≡_, refl, sym, ap, subst, _∙_}
-use borrow.Author.Needs.{needs}
+use Rattle.collector.specs.Collect.{Ends}
+use Rattle.collector.specs.CanFill.{fillingIn}
+use Rattle.cuts.proofs.LawsPlay.{outside-ended, collectedIn, fillingOf}
 use Rattle.cuts.proofs.try_cut.Statement.{statement}
 use Rattle.cuts.proofs.try_cut.Tie as tie
-use Rattle.cuts.proofs.try_cut.Reads as reads
-use Rattle.cuts.proofs.try_cut.Lts as lts
-use Rattle.collector.proofs.can_fill.can_fill_with_args.Reads as can-fill-with-args-reads
-use Rattle.collector.proofs.collect.collect.Reads as collect-reads
-use Rattle.cuts.proofs.records_pass.Reads as records-pass-reads
 
--- src/lib.rt:86:9
 records-pass-requires : tie.Need-records-pass-requires
 records-pass-requires c κs = search needs
 
--- src/lib.rt:87:9
 returns : tie.Need-returns
 returns c =
     record {
@@ -30,19 +23,15 @@ returns c =
       filling = λ e f z. outside-ended e f z;
     }
 
--- src/lib.rt:89:9
 can-fill-with-args-requires : tie.Need-can-fill-with-args-requires
 can-fill-with-args-requires c κs = search needs
 
--- src/lib.rt:90:9
 collect-requires : tie.Need-collect-requires
 collect-requires c κs = search needs
 
--- src/lib.rt:76:1
 same-length : tie.Need-same-length
 same-length c = search needs
 
--- src/lib.rt:76:1
 returns-2 : tie.Need-returns-2
 returns-2 c =
     let asked = c .before .before .before .before .before .before in

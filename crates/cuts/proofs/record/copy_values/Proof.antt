@@ -1,19 +1,16 @@
-use Rattle.cuts.proofs.LawsRun.{stored-more}
+-- `cuts::record::copy_values` meets its contract: each turn stores one value more of the run. Assumes nothing.
+use mathlib.Core.Path.{_≡_, refl, sym, ap₂, subst, _∙_}
+use Prim.Native.Nat.{_-_, _+_, _*_, _≤_}
+use native.Mathlib.Omega.{arith}
+use lib.ListN.{length}
+use borrow.Author.Needs.{needs}
+use Rattle.rules.specs.Value.{valueCells}
+use Rattle.cells.specs.Out.{stored}
 use Rattle.collector.proofs.LawsBoard.{stored-none}
 use Rattle.cuts.specs.Record.{runOf}
-use Rattle.cells.specs.Out.{stored}
-use Rattle.rules.specs.Value.{valueCells}
-use lib.ListN.{length}
-use native.Mathlib.Omega.{arith}
-use Prim.Native.Nat.{_-_, _+_, _*_, _≤_}
-use mathlib.Core.Path.{_≡_, refl, sym, ap, ap₂, subst, _∙_}
-use borrow.Author.Needs.{needs}
+use Rattle.cuts.proofs.LawsRun.{stored-more}
 use Rattle.cuts.proofs.record.copy_values.Statement.{statement}
 use Rattle.cuts.proofs.record.copy_values.Tie as tie
-use Rattle.cuts.proofs.record.copy_values.Reads as reads
-use Rattle.cuts.proofs.record.copy_values.Lts as lts
-use Rattle.cells.proofs.out.put.Reads as put-reads
-use Rattle.cells.proofs.record.pair_at.Reads as pair-at-reads
 
 abbrev Inv-loop : tie.InvT-loop
 Inv-loop cells from count out₀ at k₀ out k = (k ≤ count) × (length out ≡ length out₀) × (out ≡ stored out₀ at (runOf cells from k))
@@ -21,43 +18,33 @@ Inv-loop cells from count out₀ at k₀ out k = (k ≤ count) × (length out �
 abbrev μ-loop : tie.MeasureT-loop
 μ-loop cells from count out₀ at k₀ out k = count - k
 
--- src/record.rt:67:5
 loop-holds : tie.Need-loop-holds Inv-loop μ-loop
 loop-holds c = (search needs, refl, sym (stored-none (c .before .before .args .out .now) (c .before .before .args .at) (omega (arith, c .before .before .pre .1))))
 
--- src/record.rt:68:23
 mul-put : tie.Need-mul-put Inv-loop μ-loop
 mul-put c = search needs
 
--- src/record.rt:68:18
 add-put : tie.Need-add-put Inv-loop μ-loop
 add-put c = search needs
 
--- src/record.rt:68:56
 mul-pair-at : tie.Need-mul-pair-at Inv-loop μ-loop
 mul-pair-at c = search needs
 
--- src/record.rt:68:49
 add-pair-at : tie.Need-add-pair-at Inv-loop μ-loop
 add-pair-at c = search needs
 
--- src/record.rt:68:34
 pair-at-requires : tie.Need-pair-at-requires Inv-loop μ-loop
 pair-at-requires c κs = search needs
 
--- src/record.rt:68:9
 put-requires : tie.Need-put-requires Inv-loop μ-loop
 put-requires c κs = search needs
 
--- src/record.rt:69:9
 add-k : tie.Need-add-k Inv-loop μ-loop
 add-k c = search needs
 
--- src/record.rt:67:5
 loop-less : tie.Need-loop-less Inv-loop μ-loop
 loop-less c = omega arith
 
--- src/record.rt:67:5
 loop-again : tie.Need-loop-again Inv-loop μ-loop
 loop-again c =
     let start = c .before .before .before .before .before .before .before .before .before in
@@ -70,11 +57,9 @@ loop-again c =
           ∙ stored-more (a .cells .now) (a .from) (at .k) (a .at) (a .out .now) (omega (arith, start .pre .1)),
     )
 
--- src/record.rt:62:1
 same-length : tie.Need-same-length Inv-loop μ-loop
 same-length c = c .before .loop .inv .1
 
--- src/record.rt:62:1
 returns : tie.Need-returns Inv-loop μ-loop
 returns c =
     let a = c .before .before .before .before .args in

@@ -1,53 +1,39 @@
-use Rattle.cuts.proofs.LawsWrite.{head-stored}
-use Rattle.cuts.specs.Record.{cutOf, kindOf}
-use Rattle.cells.specs.Value.{pair, pairOf}
-use mathlib.Core.Path.{_≡_, ap, _∙_}
+-- `cuts::record::write_head` meets its contract: three pairs of cells are the six of the head. Assumes nothing.
+use mathlib.Core.Path.{ap, _∙_}
 use borrow.Author.Needs.{needs}
+use Rattle.cells.specs.Value.{pair, pairOf}
+use Rattle.cuts.specs.Record.{cutOf}
+use Rattle.cuts.proofs.LawsWrite.{head-stored}
 use Rattle.cuts.proofs.record.write_head.Statement.{statement}
 use Rattle.cuts.proofs.record.write_head.Tie as tie
-use Rattle.cuts.proofs.record.write_head.Reads as reads
-use Rattle.cuts.proofs.record.write_head.Lts as lts
-use Rattle.cells.proofs.out.put.Reads as put-reads
-use Rattle.cells.proofs.value.Pair.new.Reads as new-reads
-use Rattle.cuts.proofs.record.rest_kind.Reads as rest-kind-reads
 
--- src/record.rt:54:17
 new-requires : tie.Need-new-requires
 new-requires c κs = search needs
 
--- src/record.rt:54:5
 put-requires : tie.Need-put-requires
 put-requires c κs = search needs
 
--- src/record.rt:55:27
 rest-kind-requires : tie.Need-rest-kind-requires
 rest-kind-requires c κs = search needs
 
--- src/record.rt:55:17
 new-requires-2 : tie.Need-new-requires-2
 new-requires-2 c κs = search needs
 
--- src/record.rt:55:5
 put-requires-2 : tie.Need-put-requires-2
 put-requires-2 c κs = search needs
 
--- src/record.rt:56:27
 rest-kind-requires-2 : tie.Need-rest-kind-requires-2
 rest-kind-requires-2 c κs = search needs
 
--- src/record.rt:56:17
 new-requires-3 : tie.Need-new-requires-3
 new-requires-3 c κs = search needs
 
--- src/record.rt:56:5
 put-requires-3 : tie.Need-put-requires-3
 put-requires-3 c κs = search needs
 
--- src/record.rt:50:1
 same-length : tie.Need-same-length
 same-length c = search needs
 
--- src/record.rt:50:1
 returns : tie.Need-returns
 returns c =
     let third = c .before .before in
