@@ -7,7 +7,7 @@ use mathlib.Core.Option.{Option, none, some}
 use Prim.Native.Nat.{ℕ, zero, suc, _+_, _-_, min, _≤_, _<_}
 use native.Mathlib.Omega.{arith}
 use borrow.Author.Tests.{lt-ltb, le-ltb}
-use lib.ListN.{length, take, getD, length-drop, length-map, length-take}
+use lib.ListN.{length, take, getD}
 use Rattle.rules.specs.Listing.{any, firstFrom}
 use Rattle.rules.specs.Text.{textIn}
 use Rattle.rules.specs.Value.{Value, noValue, readValue}
@@ -31,6 +31,7 @@ use Rattle.collector.specs.declared.judge.Judged.the-variants.{Fine, Ref
 use Rattle.collector.specs.declared.answer.Collected.the-variants.{ExtraPositionalArg, ExtraNamedArg}
 use Rattle.collector.proofs.LawsAsked.{isSome, missingAt}
 use Rattle.collector.proofs.LawsPlaced.{parameter, required-found}
+use Rattle.collector.proofs.LawsWritten.{star-length, remainder-length}
 
 -- ---- a parameter that takes what is left over
 
@@ -42,11 +43,11 @@ any-found test i (x ∷ xs) = go (test x) (any-found test (suc i) xs)
     go true e = refl
     go false e = e
 
-args-found : (qs : List Parameter) → hasArgs qs ≡ isSome (argsIndex qs)
+pub args-found : (qs : List Parameter) → hasArgs qs ≡ isSome (argsIndex qs)
 unfolding hasArgs argsIndex
 args-found qs = any-found (λ q. isArgs (q .kind)) 0 qs
 
-kwargs-found : (qs : List Parameter) → hasKwargs qs ≡ isSome (kwargsIndex qs)
+pub kwargs-found : (qs : List Parameter) → hasKwargs qs ≡ isSome (kwargsIndex qs)
 unfolding hasKwargs kwargsIndex
 kwargs-found qs = any-found (λ q. isKwargs (q .kind)) 0 qs
 
@@ -106,18 +107,8 @@ module _ (spec : List ℕ) (l : ParametersSpec) (list : Prepared spec l) (cells 
   abbrev qs : List Parameter
   qs = parametersIn spec (l .params)
 
-  pub remainder-length : length (namedRemainder qs N) ≡ kept
-  remainder-length = ap length (r .rest-is) ∙ length-map (take kept rest) (namedAt area cells) ∙ length-take kept rest ∙ least
-    where
-      least : min kept (length rest) ≡ kept
-      least = omega (arith, r .pairs)
-
   first-name : (v : Named) (ws : List Named) → namedRemainder qs N ≡ v ∷ ws → v .name .payload ≡ pairAt cells (getD rest 0 0) .payload
   first-name v ws e = first-of area cells kept rest v ws (sym e ∙ r .rest-is)
-
-  surplus-length : length (starRemainder qs P) ≡ h .p + h .s - l .indices .«num_positional»
-  unfolding starRemainder
-  surplus-length = length-drop (positionalCount qs) P ∙ ap₂ (λ a b. a - b) long (sym (list .is-list .positional))
 
   pub remainders-asked : judgedAnswer (remaindersAs l cells h rest kept) ≡ (askStarRemainder (hasArgs qs) (starRemainder qs P) then askNamedRemainder (hasKwargs qs) (namedRemainder qs N))
   unfolding remaindersAs
@@ -130,14 +121,14 @@ module _ (spec : List ℕ) (l : ParametersSpec) (list : Prepared spec l) (cells 
           ≡ cond (lostTo (h .p + h .s) (l .indices .«num_positional») (indexOf (l .indices .args))) (refuse 23 (count (h .p + h .s - l .indices .«num_positional»))) fine
       surplus =
           ap (λ b. askStarRemainder b (starRemainder qs P)) (args-found qs ∙ ap isSome (sym (list .is-list .args)))
-          ∙ star-asked (indexOf (l .indices .args)) (starRemainder qs P) (h .p + h .s) (l .indices .«num_positional») surplus-length
+          ∙ star-asked (indexOf (l .indices .args)) (starRemainder qs P) (h .p + h .s) (l .indices .«num_positional») (star-length spec l list cells area P N sources rest kept next upto r few h values long)
 
       left
           : askNamedRemainder (hasKwargs qs) (namedRemainder qs N)
           ≡ cond (lostTo kept 0 (indexOf (l .indices .kwargs))) (refuse 24 (countAndName kept (placeOf callArea (pairAt cells (getD rest 0 0) .payload)))) fine
       left =
           ap (λ b. askNamedRemainder b (namedRemainder qs N)) (kwargs-found qs ∙ ap isSome (sym (list .is-list .kwargs)))
-          ∙ named-asked (indexOf (l .indices .kwargs)) (namedRemainder qs N) kept (pairAt cells (getD rest 0 0) .payload) remainder-length first-name
+          ∙ named-asked (indexOf (l .indices .kwargs)) (namedRemainder qs N) kept (pairAt cells (getD rest 0 0) .payload) (remainder-length qs cells area N sources rest kept r few) first-name
 
   pub placed-asked : judgedAnswer (placedAs l cells h next sources rest kept) ≡ askPlaced qs P N
   unfolding placedAs askPlaced place

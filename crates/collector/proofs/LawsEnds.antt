@@ -2,7 +2,7 @@
 -- the outcome of `rules`, so where both paths apply they agree (`paths-agree`).
 -- Assumes nothing.
 use mathlib.Core.Path.{_≡_, refl, sym, ap, ap₂, subst, _∙_}
-use mathlib.Core.Bool.{Bool, true, false, _&&_, false≢true}
+use mathlib.Core.Bool.{true, _&&_, false≢true}
 use mathlib.Core.List.{List, [], _∷_, _++_, map, append-nil}
 use Prim.Native.Nat.{ℕ, suc, _+_, _*_, _≤_, _<_}
 use native.Mathlib.Nat.{zero-add}
@@ -20,7 +20,7 @@ use Rattle.rules.specs.Board.{boardAfter, boardLeast-64, written}
 use Rattle.rules.specs.ParameterQuestions.{askParameters, listOf}
 use Rattle.rules.specs.CallQuestions.{askCall, askBoard}
 use Rattle.rules.specs.Binding.{askBinding}
-use Rattle.rules.specs.Collection.{Outcome, refused, accepted, outcomeOf, boardLeft, callOf, askRecords, collection}
+use Rattle.rules.specs.Collection.{Outcome, accepted, outcomeOf, callOf, askRecords, collection}
 use Rattle.rules.proofs.LawsListing.{and-left, and-right}
 use Rattle.rules.proofs.LawsRecord.{length-writeEach}
 use Rattle.rules.proofs.LawsShort.{tally-most, binding-short, counts-short, written-short}
@@ -34,7 +34,7 @@ use Rattle.collector.specs.Answer.{told, answerIn, isRefusal, countsOf}
 use Rattle.calls.specs.Head.{namedFrom, entriesFrom}
 use Rattle.collector.specs.Resolved.{namedAt, Resolved}
 use Rattle.collector.specs.EntriesDone.{entryAt}
-use Rattle.collector.specs.Board.{positionalAt, valuesIn, RestHeld, BoardReady, BoardWritten}
+use Rattle.collector.specs.Board.{positionalAt, valuesIn, BoardReady, BoardWritten}
 use Rattle.collector.specs.Questions.{CallReady}
 use Rattle.collector.specs.Collect.{Ends, bindingOf, boundTo, isShort, ShortCall}
 use Rattle.collector.specs.declared.answer.Counts.{Counts}

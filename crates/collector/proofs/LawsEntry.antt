@@ -1,26 +1,26 @@
 -- Laws of one entry: what the code answers for it is what 18 and 19 answer, after the names that are resolved so far; and a free entry is
 -- resolved like a written name.
 -- Assumes nothing.
-use mathlib.Core.Path.{_≡_, refl, sym, ap, ap₂, subst, _∙_}
-use mathlib.Core.Bool.{Bool, true, false, cond, not, _&&_, _||_, false≢true, true≢false}
-use mathlib.Core.List.{List, [], _∷_, _++_, map}
-use Prim.Native.Nat.{ℕ, zero, suc, _+_, min, _≤_, _<_}
+use mathlib.Core.Path.{_≡_, refl, sym, ap, ap₂, _∙_}
+use mathlib.Core.Bool.{Bool, true, false, cond, not, _&&_, _||_}
+use mathlib.Core.List.{List, []}
+use Prim.Native.Nat.{ℕ, zero, suc, min}
 use native.Mathlib.Omega.{arith}
 use borrow.Author.Tests.{eqb-true}
 use lib.Dec.{eqb, ltb, leb, eqb·suc-zero}
-use lib.ListN.{length, take, drop, getD}
-use Rattle.rules.specs.Text.{Text, sizeOf, startOf, payloadOf, bytesAt, inside, isText, textIn, among}
-use Rattle.rules.specs.Value.{Value, readValue, callText, wellFormedKey}
-use Rattle.rules.specs.Answer.{Answer, fine, refuse, ask, none, name, callArea, partOf}
-use Rattle.rules.specs.CallRecord.{Named, Key, word, number, keyIn, namedIn, readPair}
+use lib.ListN.{length, getD}
+use Rattle.rules.specs.Text.{sizeOf, bytesAt, inside, isText, textIn, among}
+use Rattle.rules.specs.Value.{Value, callText, wellFormedKey}
+use Rattle.rules.specs.Answer.{fine, refuse, name, callArea, partOf}
+use Rattle.rules.specs.CallRecord.{Named, word, number, keyIn}
 use Rattle.rules.specs.Parameters.{Parameter, positionalCount}
-use Rattle.rules.specs.Lookup.{known, find, at, unknown}
+use Rattle.rules.specs.Lookup.{known, find, unknown}
 use Rattle.rules.specs.Passed.{positionalFirst, namesApart}
 use Rattle.rules.specs.Binding.{textsOf, namesFilled, askEntry}
 use Rattle.rules.proofs.LawsListing.{and-left, and-right}
 use Rattle.rules.proofs.LawsText.{payload-of-halves}
 use Rattle.rules.proofs.LawsPlacement.{isSome}
-use Rattle.rules.proofs.LawsFound.{isBelow, isFound, known-found, names-filled, among-unknown}
+use Rattle.rules.proofs.LawsFound.{isBelow, names-filled, among-unknown}
 use Rattle.cells.specs.Text.{textOf, partAt}
 use Rattle.cells.specs.Value.{readKey}
 use Rattle.cells.specs.Record.{pairAt, keyAt}
@@ -34,11 +34,10 @@ use Rattle.lookup.specs.declared.Finding.the-variants.{At, Unknown}
 use Rattle.lookup.specs.Lookup.{findingOf, findIn}
 use Rattle.lookup.proofs.LawsBuilt.{lookup-columns}
 use Rattle.collector.specs.Answer.{placeOf}
-use Rattle.collector.specs.Resolved.{sourceValue, namedAt, Resolved}
+use Rattle.collector.specs.Resolved.{sourceValue, Resolved}
 use Rattle.collector.specs.Resolve.{Prepared}
 use Rattle.collector.specs.Entries.{heldNames, takenBy, freeOr, enteredBy, wordAt, enteredAt, entryAnswer}
-use Rattle.collector.specs.declared.entries.Entered.{Entered}
-use Rattle.collector.specs.declared.entries.Entered.the-variants.{Free, NotText, Repeated}
+use Rattle.collector.specs.declared.entries.Entered.the-variants.{Free, NotText}
 use Rattle.collector.proofs.LawsResolved.{known-at, source-among}
 use Rattle.collector.proofs.LawsNames.{anyParameter}
 

@@ -5,7 +5,6 @@
 use mathlib.Core.Path.{_≡_, refl, sym, ap, ap₂, subst, _∙_}
 use mathlib.Core.Bool.{Bool, true, false, cond, not, _&&_, _||_, true≢false}
 use mathlib.Core.List.{List, [], _∷_, _++_}
-use mathlib.Core.Option.{none, some}
 use Prim.Native.Nat.{ℕ, zero, suc, _+_, _-_, min, _≤_, _<_, suc-le-suc}
 use native.Mathlib.Nat.{add-zero, zero-add, le-of-suc-le-suc, not-suc-le-zero}
 use native.Mathlib.Omega.{arith}
@@ -13,9 +12,9 @@ use borrow.Author.Tests.{ltb-false, lt-ltb, le-ltb, eq-eqb, ne-eqb, eqb-true, eq
 use lib.Dec.{ltb, eqb}
 use lib.ListN.{length, getD, set, length-set}
 use lib.Seq.{getD-set-same, getD-set-other}
-use Rattle.rules.specs.Listing.{all, any, tally, anyFrom, firstFrom}
-use Rattle.rules.specs.Value.{Value, noValue}
-use Rattle.rules.specs.Parameters.{Parameter, positional, positionalCount, isRequired, isArgs, isKwargs, hasArgs, hasKwargs, argsIndex, kwargsIndex, actOf}
+use Rattle.rules.specs.Listing.{all, tally, anyFrom}
+use Rattle.rules.specs.Value.{noValue}
+use Rattle.rules.specs.Parameters.{Parameter, positional, positionalCount, isRequired, hasArgs, hasKwargs, argsIndex, kwargsIndex}
 use Rattle.rules.specs.Lookup.{names, known, find, at, unknown}
 use Rattle.rules.specs.Passed.{positionalFirst, namesApart}
 use Rattle.rules.specs.Placement.{fromP}
@@ -24,7 +23,7 @@ use Rattle.rules.proofs.LawsListing.{and-left, and-right, and-no-left, and-no-r
 use Rattle.rules.proofs.LawsFound.{fromP-at}
 use Rattle.builder.specs.Listed.{listed}
 use Rattle.builder.specs.Spec.{indexOf}
-use Rattle.builder.specs.Params.{kindFor, parameterOf, parameterAt, parametersIn}
+use Rattle.builder.specs.Params.{parameterOf, parameterAt, parametersIn}
 use Rattle.builder.specs.declared.params.Parameters.{Parameters}
 use Rattle.builder.specs.declared.spec.Index.{Index}
 use Rattle.builder.specs.declared.spec.Index.the-variants as index
@@ -37,6 +36,8 @@ use Rattle.collector.specs.CanFill.{isThere, freeFor, namedAfter}
 use Rattle.collector.proofs.LawsIndex.{firstIndex-from}
 use Rattle.collector.proofs.LawsAsked.{isSome, any-first}
 use Rattle.collector.proofs.LawsNames.{anyParameter}
+use Rattle.collector.proofs.LawsPlaced.{getD-listed, required-code}
+use Rattle.collector.proofs.LawsAskPlaced.{args-found, kwargs-found}
 use Rattle.collector.proofs.LawsResolved.{named-at, known-at, find-within}
 
 -- ---- tests over a list
@@ -217,46 +218,20 @@ module _ (qs : List Parameter) (p next : ℕ) (first : positionalFirst qs ≡ tr
 
 -- ---- the code of a required parameter
 
-required-code : (code : ℕ) (v : Value) → isRequired (kindFor (actOf code v)) ≡ eqb code 1
-required-code zero v = refl
-required-code (suc zero) v = refl
-required-code (suc (suc zero)) v = refl
-required-code (suc (suc (suc zero))) v = refl
-required-code (suc (suc (suc (suc zero)))) v = refl
-required-code (suc (suc (suc (suc (suc zero))))) v = refl
-required-code (suc (suc (suc (suc (suc (suc zero)))))) v = refl
-required-code (suc (suc (suc (suc (suc (suc (suc zero))))))) v = refl
-required-code (suc (suc (suc (suc (suc (suc (suc (suc n)))))))) v = sym (ne-eqb (suc (suc (suc (suc (suc (suc (suc (suc n)))))))) 1 (λ e. absurd (omega arith)))
-
-listed-at : {X : Type 0} (f : ℕ → X) (i count k : ℕ) (d : X) → k < count → getD (listed f i count) k d ≡ f (i + k)
-listed-at f i zero k d h = absurd (not-suc-le-zero h)
-listed-at f i (suc count) zero d h = ap f (sym (add-zero i))
-listed-at f i (suc count) (suc k) d h = listed-at f (suc i) count k d (le-of-suc-le-suc h) ∙ ap f (suc-step i k)
-
 pub required-at : (area : List ℕ) (ps : Parameters) (k : ℕ) (d : Parameter) → k < ps .len → isRequired (getD (parametersIn area ps) k d .kind) ≡ eqb (getD (ps .codes) k 0) 1
 unfolding parametersIn parameterAt parameterOf
 required-at area ps k d h =
-    ap (λ q. isRequired (q .kind)) (listed-at (parameterAt area ps) 0 (ps .len) k d h ∙ ap (parameterAt area ps) (zero-add k))
+    ap (λ q. isRequired (q .kind)) (getD-listed (parameterAt area ps) 0 (ps .len) k d h ∙ ap (parameterAt area ps) (zero-add k))
     ∙ required-code (getD (ps .codes) k 0) (record { kind = getD (ps .«default_kinds») k 0; payload = getD (ps .«default_payloads») k 0 })
 
 -- ---- the indices of *args and **kwargs
-
-first-any : {X : Type 0} (test : X → Bool) (i : ℕ) (xs : List X) → isSome (firstFrom test i xs) ≡ any test xs
-first-any test i [] = refl
-first-any test i (x ∷ xs) = go (test x) (first-any test (suc i) xs)
-  where
-    go : (b : Bool) → isSome (firstFrom test (suc i) xs) ≡ any test xs → isSome (cond b (some i) (firstFrom test (suc i) xs)) ≡ (b || any test xs)
-    go true e = refl
-    go false e = e
 
 pub there-is : (i : Index) → isThere i ≡ isSome (indexOf i)
 there-is (index.At i) = refl
 there-is index.Absent = refl
 
 pub args-there : (i : Index) (qs : List Parameter) → indexOf i ≡ argsIndex qs → isThere i ≡ hasArgs qs
-unfolding argsIndex hasArgs
-args-there i qs e = there-is i ∙ ap isSome e ∙ first-any (λ q. isArgs (q .kind)) 0 qs
+args-there i qs e = there-is i ∙ ap isSome e ∙ sym (args-found qs)
 
 pub kwargs-there : (i : Index) (qs : List Parameter) → indexOf i ≡ kwargsIndex qs → isThere i ≡ hasKwargs qs
-unfolding kwargsIndex hasKwargs
-kwargs-there i qs e = there-is i ∙ ap isSome e ∙ first-any (λ q. isKwargs (q .kind)) 0 qs
+kwargs-there i qs e = there-is i ∙ ap isSome e ∙ sym (kwargs-found qs)

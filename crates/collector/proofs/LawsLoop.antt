@@ -1,33 +1,32 @@
 -- Laws of the loop over the entries: one more entry that is free, and an entry that is refused.
 -- Assumes nothing.
-use mathlib.Core.Path.{_≡_, refl, sym, ap, ap₂, subst, _∙_}
-use mathlib.Core.Bool.{Bool, true, false, cond}
+use mathlib.Core.Path.{_≡_, sym, ap, ap₂, subst, _∙_}
+use mathlib.Core.Bool.{true, false, cond}
 use mathlib.Core.List.{List, [], _∷_, _++_, append-assoc}
-use Prim.Native.Nat.{ℕ, zero, suc, _+_, _*_, _-_, min, _≤_, _<_}
+use Prim.Native.Nat.{ℕ, _+_, _*_, _-_, min, _≤_, _<_}
 use native.Mathlib.Omega.{arith}
 use lib.Dec.{eqb}
-use lib.ListN.{length, drop, length-append}
+use lib.ListN.{length, length-append}
 use Rattle.rules.specs.Text.{bytesAt, inside, textIn, among}
-use Rattle.rules.specs.Value.{Value, callText, valueWidth, readValue, wellFormedKey}
-use Rattle.rules.specs.Answer.{Answer, fine, refuse, _then_, Detail}
-use Rattle.rules.specs.CallRecord.{Head, headWidth, pairWidth, Named, Entry, Key, word, number, wordOf, keyIn, entryIn, namedIn, readPair}
+use Rattle.rules.specs.Value.{Value, callText, valueWidth, wellFormedKey}
+use Rattle.rules.specs.Answer.{refuse, _then_, Detail}
+use Rattle.rules.specs.CallRecord.{Head, headWidth, pairWidth, Named, word, number, wordOf, keyIn, entryIn, namedIn, readPair}
 use Rattle.rules.specs.Parameters.{Parameter, positionalCount}
 use Rattle.rules.specs.Lookup.{find}
-use Rattle.rules.specs.Binding.{textsOf, askEntry, askEntries}
+use Rattle.rules.specs.Binding.{textsOf, askEntries}
 use Rattle.cells.specs.Record.{pairAt}
-use Rattle.builder.specs.Listed.{listed}
 use Rattle.builder.specs.Params.{parametersIn}
 use Rattle.builder.specs.declared.spec.ParametersSpec.{ParametersSpec}
-use Rattle.builder.proofs.LawsListed.{length-listed, listed-next, listed-end, listed-more}
+use Rattle.builder.proofs.LawsListed.{length-listed, listed-next, listed-more}
 use Rattle.calls.specs.Head.{Few, namedFrom, itemsFrom, entriesFrom}
 use Rattle.lookup.specs.declared.Finding.{Finding}
 use Rattle.lookup.specs.Lookup.{findingOf}
 use Rattle.collector.specs.Resolved.{namedAt, Resolved}
-use Rattle.collector.specs.Resolve.{Below, pairsFrom, sourcesAfter, restAfter, countAfter, Prepared}
+use Rattle.collector.specs.Resolve.{Below, pairsFrom, sourcesAfter, restAfter, countAfter}
 use Rattle.collector.specs.Entries.{Held, enteredAt, entryAnswer}
 use Rattle.collector.specs.EntriesDone.{writtenNames, entryAt, entriesIn, EntriesReady}
 use Rattle.collector.specs.declared.entries.Entered.{Entered}
-use Rattle.collector.specs.declared.entries.Entered.the-variants.{Free, NotText, Repeated}
+use Rattle.collector.specs.declared.entries.Entered.the-variants.{Free}
 use Rattle.collector.proofs.LawsResolved.{entered, entered-below}
 use Rattle.collector.proofs.LawsNames.{anyParameter, few-list}
 use Rattle.collector.proofs.LawsEntry.{key-inside, entry-answer, entry-free}

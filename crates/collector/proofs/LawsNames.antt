@@ -1,19 +1,18 @@
 -- Laws of names resolved in a loop: what the code finds for a pair is what `rules` finds for its name, a pair's name is none of those before
 -- it, and one more turn resolves one more pair.
 -- Assumes nothing.
-use mathlib.Core.Path.{_≡_, refl, sym, ap, ap₂, subst, _∙_}
-use mathlib.Core.Bool.{Bool, true, false, cond}
+use mathlib.Core.Path.{_≡_, sym, ap, ap₂, subst, _∙_}
+use mathlib.Core.Bool.{true, false, cond}
 use mathlib.Core.List.{List, [], _∷_, _++_, map}
 use Prim.Native.Nat.{ℕ, zero, suc, _+_, _*_, _-_, _≤_, _<_}
 use native.Mathlib.Nat.{add-zero, zero-add, suc-add}
 use native.Mathlib.Omega.{arith}
-use lib.ListN.{length, drop, getD}
+use lib.ListN.{length}
 use Rattle.rules.specs.Text.{inside, bytesAt, textIn, among, differ}
-use Rattle.rules.specs.CallRecord.{Named, namedIn, readPair}
+use Rattle.rules.specs.CallRecord.{namedIn, readPair}
 use Rattle.rules.specs.Parameters.{Parameter, required, posOnly}
 use Rattle.rules.specs.Lookup.{find}
 use Rattle.rules.specs.Binding.{textsOf}
-use Rattle.rules.specs.Passed.{namesApart}
 use Rattle.rules.proofs.LawsListing.{map-append}
 use Rattle.rules.proofs.LawsText.{differ-middle}
 use Rattle.cells.specs.Text.{partAt}
@@ -25,7 +24,7 @@ use Rattle.builder.proofs.LawsListed.{length-listed, listed-next, listed-more}
 use Rattle.lookup.specs.Lookup.{findIn, findingOf}
 use Rattle.lookup.proofs.LawsBuilt.{lookup-columns}
 use Rattle.collector.specs.Resolved.{namedAt, Resolved}
-use Rattle.collector.specs.Resolve.{foundAt, Below, sourcesAfter, restAfter, countAfter, pairsFrom, Pairs, Prepared, Naming}
+use Rattle.collector.specs.Resolve.{foundAt, Below, sourcesAfter, restAfter, countAfter, pairsFrom, Prepared, Naming}
 use Rattle.collector.proofs.LawsResolved.{entered, entered-below}
 
 -- a parameter to read past the end of a list

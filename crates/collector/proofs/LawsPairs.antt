@@ -2,13 +2,13 @@
 -- Assumes nothing.
 use mathlib.Core.Path.{_≡_, refl, sym, ap, ap₂, _∙_}
 use mathlib.Core.List.{List, [], _∷_, _++_, map}
-use Prim.Native.Nat.{ℕ, zero, suc, _+_, _*_, _≤_, _<_}
+use Prim.Native.Nat.{ℕ, zero, suc, _+_, _*_, _≤_}
 use native.Mathlib.Nat.{zero-add}
 use native.Mathlib.Omega.{arith}
-use lib.ListN.{length, take, drop, getD, length-append}
+use lib.ListN.{length, take, drop, getD}
 use lib.Seq.{take-suc}
 use Rattle.rules.specs.Cells.{writeEach}
-use Rattle.rules.specs.Value.{Value, valueCells, readValue, valueWidth, callText}
+use Rattle.rules.specs.Value.{valueCells, readValue, callText}
 use Rattle.rules.specs.CallRecord.{Named, pairCells, namedIn, readPair}
 use Rattle.rules.specs.Text.{textIn}
 use Rattle.rules.specs.Board.{namedCells}

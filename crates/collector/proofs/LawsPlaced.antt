@@ -2,20 +2,18 @@
 -- searches over indices find.
 -- Assumes nothing.
 use mathlib.Core.Path.{_≡_, refl, sym, ap, ap₂, subst, _∙_}
-use mathlib.Core.Bool.{Bool, true, false, cond, not, _&&_, _||_, true≢false}
-use mathlib.Core.List.{List, [], _∷_, _++_}
-use mathlib.Core.Option.{Option, none, some}
+use mathlib.Core.Bool.{Bool, true, false, cond, not, _&&_}
+use mathlib.Core.List.{List, _∷_}
 use Prim.Native.Nat.{ℕ, zero, suc, _+_, _-_, min, _≤_, _<_}
 use native.Mathlib.Nat.{zero-add, sub-zero, add-zero}
 use native.Mathlib.Omega.{arith}
 use borrow.Author.Tests.{ltb-true, ne-eqb}
 use lib.Dec.{eqb, ltb, eqb·suc-zero}
 use lib.ListN.{length, drop, getD}
-use Rattle.rules.specs.Listing.{tally, mapFrom}
+use Rattle.rules.specs.Listing.{mapFrom}
 use Rattle.rules.specs.Value.{Value, noValue, readValue}
-use Rattle.rules.specs.Answer.{Answer}
 use Rattle.rules.specs.CallRecord.{Head, Named}
-use Rattle.rules.specs.Parameters.{Parameter, ParameterKind, required, optional, defaulted, args, kwargs, isRequired, positional, positionalCount, actOf}
+use Rattle.rules.specs.Parameters.{Parameter, ParameterKind, required, optional, defaulted, args, kwargs, isRequired, positionalCount, actOf}
 use Rattle.rules.specs.Placement as rules
 use Rattle.rules.specs.Binding.{namedBy, askRepeats, askRequired}
 use Rattle.rules.proofs.LawsPlacement.{isSome, partner-some}
@@ -58,7 +56,7 @@ positional-read cells h k = refl
 
 -- ---- a required slot that is empty
 
-required-code : (code : ℕ) (v : Value) → isRequired (kindFor (actOf code v)) ≡ eqb code 1
+pub required-code : (code : ℕ) (v : Value) → isRequired (kindFor (actOf code v)) ≡ eqb code 1
 required-code zero v = refl
 required-code (suc zero) v = refl
 required-code (suc (suc zero)) v = refl

@@ -1,12 +1,10 @@
 -- A list that `build` hands out is one that binding can lean on.
 -- Assumes nothing.
 use mathlib.Core.Path.{_≡_, sym, ap, subst, _∙_}
-use mathlib.Core.Bool.{true}
 use mathlib.Core.List.{List, []}
 use Prim.Native.Nat.{ℕ}
 use Rattle.rules.specs.Listing.{all}
 use Rattle.rules.specs.Answer.{fine}
-use Rattle.rules.specs.Parameters.{Parameter}
 use Rattle.rules.specs.ParameterQuestions.{askParameters, listOf}
 use Rattle.rules.specs.Passed.{positionalFirst, namesApart, nameInside}
 use Rattle.rules.proofs.LawsParameters.{list-positionalFirst, list-namesApart, list-nameInside}

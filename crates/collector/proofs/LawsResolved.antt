@@ -2,7 +2,7 @@
 -- remainder.
 -- Assumes nothing.
 use mathlib.Core.Path.{_≡_, refl, sym, ap, ap₂, subst, _∙_}
-use mathlib.Core.Bool.{Bool, true, false, cond, not, false≢true, true≢false}
+use mathlib.Core.Bool.{Bool, true, false, cond, not, true≢false}
 use mathlib.Core.List.{List, [], _∷_, _++_, map, append-nil}
 use mathlib.Core.Option.{Option, none, some}
 use Prim.Native.Nat.{ℕ, zero, suc, _+_, _≤_, _<_}
@@ -15,7 +15,7 @@ use lib.ListN.{length, take, drop, getD, set, length-set, length-append}
 use lib.Seq.{getD-set-same, getD-set-other, take-suc-set, drop-drop}
 use Rattle.rules.specs.Listing.{keep}
 use Rattle.rules.specs.Value.{Value, readValue, valueWidth}
-use Rattle.rules.specs.CallRecord.{Named, Pair, readPair, namedIn}
+use Rattle.rules.specs.CallRecord.{Named, readPair, namedIn}
 use Rattle.rules.specs.Parameters.{Parameter}
 use Rattle.rules.specs.Lookup.{names, known, Finding, at, unknown, findFrom, find}
 use Rattle.rules.specs.Placement.{partner, namedRemainder}

@@ -3,22 +3,21 @@
 use mathlib.Core.Path.{_≡_, refl, sym, ap, ap₂, _∙_}
 use mathlib.Core.Bool.{Bool, true, false, cond}
 use mathlib.Core.List.{List, [], _∷_, _++_, append-nil, append-assoc}
-use Prim.Native.Nat.{ℕ, zero, suc, _+_, _*_, _≤_}
+use Prim.Native.Nat.{ℕ, _+_, _*_, _≤_}
 use native.Mathlib.Nat.{zero-add}
 use native.Mathlib.Numerals.{add-one}
 use native.Mathlib.Omega.{arith}
-use lib.ListN.{length, length-append}
+use lib.ListN.{length}
 use Rattle.rules.specs.Listing.{tally}
 use Rattle.rules.specs.Cells.{writeEach}
-use Rattle.rules.specs.Value.{Value, valueCells, valueWidth}
+use Rattle.rules.specs.Value.{Value, valueCells}
 use Rattle.rules.specs.Placement as rules
 use Rattle.rules.specs.Board.{slotValue, slotCells}
-use Rattle.rules.proofs.LawsRecord.{length-writeEach, valueCells-wide}
+use Rattle.rules.proofs.LawsRecord.{length-writeEach}
 use Rattle.cells.specs.Out.{stored}
 use Rattle.builder.specs.Listed.{listed}
 use Rattle.builder.proofs.LawsListed.{length-listed, listed-more, listed-snoc, tally-snoc}
 use Rattle.collector.specs.Slots.{slotIn, Filling}
-use Rattle.collector.specs.declared.slots.Filled.{Filled}
 use Rattle.collector.specs.declared.slots.Slot.{Slot}
 use Rattle.collector.specs.declared.slots.Slot.the-variants.{Empty, Taken, Default, Args, KWargs}
 use Rattle.collector.proofs.LawsBoard.{stored-none, stored-stored}

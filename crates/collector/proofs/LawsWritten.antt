@@ -3,10 +3,10 @@
 -- Assumes nothing.
 use mathlib.Core.Path.{_≡_, refl, sym, ap, ap₂, _∙_}
 use mathlib.Core.List.{List, [], _∷_, _++_, append-assoc}
-use Prim.Native.Nat.{ℕ, zero, suc, _+_, _-_, _*_, min, _≤_, _<_}
-use native.Mathlib.Nat.{zero-add, add-zero}
+use Prim.Native.Nat.{ℕ, suc, _+_, _-_, _*_, min, _≤_, _<_}
+use native.Mathlib.Nat.{add-zero}
 use native.Mathlib.Omega.{arith}
-use lib.ListN.{length, take, drop, getD, length-append, length-drop, length-map, length-take}
+use lib.ListN.{length, take, getD, length-append, length-drop, length-map, length-take}
 use lib.Seq.{getD-drop}
 use Rattle.rules.specs.Listing.{tally}
 use Rattle.rules.specs.Cells.{writeEach}
@@ -25,8 +25,8 @@ use Rattle.collector.specs.Resolved.{namedAt, Resolved}
 use Rattle.collector.specs.Resolve.{Prepared}
 use Rattle.collector.specs.Answer as answer
 use Rattle.collector.specs.Entries.{heldNames}
-use Rattle.collector.specs.Slots.{slotAt, slotsOf, Filling}
-use Rattle.collector.specs.Board.{positionalAt, valuesIn, starLeft, slotsIn, writtenIn, RestHeld, BoardReady, BoardWritten}
+use Rattle.collector.specs.Slots.{slotsOf, Filling}
+use Rattle.collector.specs.Board.{positionalAt, valuesIn, starLeft, slotsIn, writtenIn, BoardReady, BoardWritten}
 use Rattle.collector.specs.declared.answer.Counts.{Counts}
 use Rattle.collector.specs.declared.slots.Filled.{Filled}
 use Rattle.collector.proofs.LawsBoard.{stored-stored, stored-first}
@@ -139,7 +139,7 @@ module _ (spec : List ℕ) (l : ParametersSpec) (list : Prepared spec l) (cells 
   abbrev qs : List Parameter
   qs = parametersIn spec (l .params)
 
-  star-length : length (rules.starRemainder qs P) ≡ starLeft l h
+  pub star-length : length (rules.starRemainder qs P) ≡ starLeft l h
   unfolding rules.starRemainder
   star-length = length-drop (positionalCount qs) P ∙ ap₂ (λ a b. a - b) long (sym (list .is-list .positional))
 

@@ -11,7 +11,6 @@ use Rattle.rules.specs.Parameters.{Parameter, positionalCount}
 use Rattle.rules.specs.CallQuestions.{askCall, askBoard}
 use Rattle.rules.specs.Binding.{askBinding}
 use Rattle.rules.specs.Collection.{Outcome, outcomeOf, boardLeft, callOf}
-use Rattle.builder.specs.Params.{parametersIn}
 use Rattle.builder.specs.declared.spec.ParametersSpec.{ParametersSpec}
 use Rattle.collector.specs.Answer.{told}
 use Rattle.collector.specs.Board.{valuesIn}

@@ -1,6 +1,6 @@
 -- What 18 and 19 answer for an entry, by what is found for its key and what the names before it fill.
 use mathlib.Core.Path.{_≡_}
-use mathlib.Core.Bool.{Bool, true, cond, not, _||_}
+use mathlib.Core.Bool.{Bool, cond, not, _||_}
 use mathlib.Core.List.{List, map}
 use Prim.Native.Nat.{ℕ, _≤_, _<_}
 use lib.Dec.{ltb, eqb}
@@ -10,7 +10,7 @@ use Rattle.rules.specs.Answer.{Answer, fine, refuse, none, name, callArea}
 use Rattle.rules.specs.CallRecord.{Named}
 use Rattle.rules.specs.Binding.{textsOf}
 use Rattle.cells.specs.Text.{partAt}
-use Rattle.cells.specs.Record.{pairAt, keyAt}
+use Rattle.cells.specs.Record.{keyAt}
 use Rattle.cells.specs.declared.value.ReadKey.{ReadKey}
 use Rattle.cells.specs.declared.value.ReadKey.the-variants.{Word, Number, Not}
 use Rattle.builder.specs.declared.spec.ParametersSpec.{ParametersSpec}

@@ -3,7 +3,7 @@ use mathlib.Core.Path.{_≡_}
 use mathlib.Core.Bool.{true}
 use mathlib.Core.List.{List, []}
 use Prim.Native.Nat.{ℕ, _+_, _*_, _<_, _≤_}
-use lib.ListN.{length, set}
+use lib.ListN.{set}
 use Rattle.rules.specs.Listing.{all}
 use Rattle.rules.specs.Text.{differ}
 use Rattle.rules.specs.CallRecord.{Named}

@@ -3,12 +3,6 @@ use Rattle.collector.proofs.LawsWritten.{board-written}
 use borrow.Author.Needs.{needs}
 use Rattle.collector.proofs.board.write_board.Statement.{statement}
 use Rattle.collector.proofs.board.write_board.Tie as tie
-use Rattle.collector.proofs.board.write_board.Reads as reads
-use Rattle.collector.proofs.board.write_board.Lts as lts
-use Rattle.collector.proofs.board.left_over.Reads as left-over-reads
-use Rattle.collector.proofs.board.write_named.Reads as write-named-reads
-use Rattle.collector.proofs.board.write_values.Reads as write-values-reads
-use Rattle.collector.proofs.slots.write_slots.Reads as write-slots-reads
 
 -- src/board.rt:40:26
 add-left-over : tie.Need-add-left-over

@@ -1,4 +1,4 @@
-use mathlib.Core.Path.{_≡_, refl, sym, ap, ap₂, subst, _∙_}
+use mathlib.Core.Path.{_≡_, refl, sym, ap, ap₂, _∙_}
 use mathlib.Core.List.{List}
 use Prim.Native.Nat.{ℕ, _-_, _+_, _*_, _≤_}
 use native.Mathlib.Omega.{arith}
@@ -14,10 +14,6 @@ use Rattle.collector.proofs.LawsPairs.{held-listed, named-more}
 use borrow.Author.Needs.{needs}
 use Rattle.collector.proofs.board.write_named.Statement.{statement}
 use Rattle.collector.proofs.board.write_named.Tie as tie
-use Rattle.collector.proofs.board.write_named.Reads as reads
-use Rattle.collector.proofs.board.write_named.Lts as lts
-use Rattle.cells.proofs.out.put.Reads as put-reads
-use Rattle.cells.proofs.record.pair_at.Reads as pair-at-reads
 
 abbrev Inv-loop : tie.InvT-loop
 Inv-loop cells rest count at board₀ k₀ board k =

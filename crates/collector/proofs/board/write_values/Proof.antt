@@ -13,11 +13,6 @@ use Rattle.collector.proofs.LawsWrite.{valueCells-two, written-more}
 use borrow.Author.Needs.{needs}
 use Rattle.collector.proofs.board.write_values.Statement.{statement}
 use Rattle.collector.proofs.board.write_values.Tie as tie
-use Rattle.collector.proofs.board.write_values.Reads as reads
-use Rattle.collector.proofs.board.write_values.Lts as lts
-use Rattle.calls.proofs.place.position_at.Reads as position-at-reads
-use Rattle.cells.proofs.out.put.Reads as put-reads
-use Rattle.cells.proofs.record.pair_at.Reads as pair-at-reads
 
 abbrev Inv-loop : tie.InvT-loop
 Inv-loop cells h from count at board₀ k₀ board k = (k ≤ count) × (length board ≡ length board₀) × (board ≡ stored board₀ at (writeEach valueCells (valuesIn cells (headOf h) from k)))

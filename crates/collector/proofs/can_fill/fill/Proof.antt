@@ -1,6 +1,6 @@
 -- `collector::can_fill::fill` meets its contract: by what was found, and for a slot by the two tests of it. Assumes nothing.
 use mathlib.Core.Path.{_≡_, sym, ap, subst, _∙_}
-use mathlib.Core.Bool.{true, not, _&&_, false≢true}
+use mathlib.Core.Bool.{not, _&&_, false≢true}
 use Prim.Native.Nat.{_<_}
 use native.Mathlib.Omega.{arith}
 use borrow.Author.Tests.{lt-ltb, le-ltb, eq-eqb, ne-eqb}

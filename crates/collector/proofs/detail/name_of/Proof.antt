@@ -3,9 +3,6 @@ use Rattle.collector.specs.Answer.{nameBytes}
 use borrow.Author.Needs.{needs}
 use Rattle.collector.proofs.detail.name_of.Statement.{statement}
 use Rattle.collector.proofs.detail.name_of.Tie as tie
-use Rattle.collector.proofs.detail.name_of.Reads as reads
-use Rattle.collector.proofs.detail.name_of.Lts as lts
-use Rattle.cells.proofs.text.part.Reads as part-reads
 
 -- src/detail.rt:13:38
 enum-known-answer : tie.Need-enum-known-answer

@@ -3,11 +3,6 @@ use Rattle.collector.specs.Entries.{enteredBy, wordAt, enteredAt}
 use borrow.Author.Needs.{needs}
 use Rattle.collector.proofs.entries.entry_at.Statement.{statement}
 use Rattle.collector.proofs.entries.entry_at.Tie as tie
-use Rattle.collector.proofs.entries.entry_at.Reads as reads
-use Rattle.collector.proofs.entries.entry_at.Lts as lts
-use Rattle.cells.proofs.record.key_at.Reads as key-at-reads
-use Rattle.cells.proofs.text.Text.payload.Reads as payload-reads
-use Rattle.collector.proofs.entries.word_at.Reads as word-at-reads
 
 key-at-requires : tie.Need-key-at-requires
 key-at-requires c κs = search needs

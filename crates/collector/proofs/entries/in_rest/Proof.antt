@@ -1,4 +1,4 @@
-use mathlib.Core.Path.{_≡_, refl, sym, ap, ap₂, _∙_}
+use mathlib.Core.Path.{_≡_, refl, sym, ap, _∙_}
 use mathlib.Core.Bool.{_||_}
 use Prim.Native.Nat.{_-_, _+_}
 use native.Mathlib.Omega.{arith}
@@ -11,11 +11,6 @@ use Rattle.collector.proofs.LawsEntries.{name-part, namesFrom, among-ne
 use borrow.Author.Needs.{needs}
 use Rattle.collector.proofs.entries.in_rest.Statement.{statement}
 use Rattle.collector.proofs.entries.in_rest.Tie as tie
-use Rattle.collector.proofs.entries.in_rest.Reads as reads
-use Rattle.collector.proofs.entries.in_rest.Lts as lts
-use Rattle.cells.proofs.record.pair_at.Reads as pair-at-reads
-use Rattle.cells.proofs.text.part.Reads as part-reads
-use Rattle.cells.proofs.text.same.Reads as same-reads
 
 abbrev Inv-loop : tie.InvT-loop
 Inv-loop cells area rest count name k₀ k = among name (textsOf (namesFrom area cells rest count 0)) ≡ among name (textsOf (namesFrom area cells rest count k))

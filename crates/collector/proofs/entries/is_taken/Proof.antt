@@ -9,9 +9,6 @@ use Rattle.collector.specs.Entries.{heldNames, takenBy}
 use borrow.Author.Needs.{needs}
 use Rattle.collector.proofs.entries.is_taken.Statement.{statement}
 use Rattle.collector.proofs.entries.is_taken.Tie as tie
-use Rattle.collector.proofs.entries.is_taken.Reads as reads
-use Rattle.collector.proofs.entries.is_taken.Lts as lts
-use Rattle.collector.proofs.entries.in_rest.Reads as in-rest-reads
 
 enum-known-found : tie.Need-enum-known-found
 enum-known-found c = search needs

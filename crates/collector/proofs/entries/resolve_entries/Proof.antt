@@ -12,7 +12,7 @@ use Rattle.builder.specs.Params.{parametersIn}
 use Rattle.builder.proofs.LawsListed.{listed-end}
 use Rattle.calls.specs.Head.{headOf, entriesFrom}
 use Rattle.collector.specs.Resolved.{Resolved}
-use Rattle.collector.specs.Resolve.{Below, pairsFrom}
+use Rattle.collector.specs.Resolve.{pairsFrom}
 use Rattle.collector.specs.EntriesDone.{writtenNames, entryAt, entriesIn}
 use Rattle.collector.specs.Answer.{placeOf}
 use Rattle.collector.specs.Entries.{enteredAt, entryAnswer}
@@ -22,11 +22,6 @@ use Rattle.collector.proofs.LawsLoop.{entries-near, resolved-held, befo
 use borrow.Author.Needs.{needs}
 use Rattle.collector.proofs.entries.resolve_entries.Statement.{statement}
 use Rattle.collector.proofs.entries.resolve_entries.Tie as tie
-use Rattle.collector.proofs.entries.resolve_entries.Reads as reads
-use Rattle.collector.proofs.entries.resolve_entries.Lts as lts
-use Rattle.calls.proofs.head.entries_from.Reads as entries-from-reads
-use Rattle.collector.proofs.entries.entry_at.Reads as entry-at-reads
-use Rattle.collector.proofs.resolve.enter.Reads as enter-reads
 
 abbrev Inv-loop : tie.InvT-loop
 Inv-loop list spec cells area h next sources₀ rest₀ before from count₀ k₀ sources rest count k =

@@ -8,11 +8,6 @@ use Rattle.collector.proofs.LawsEntries.{findIn-below}
 use borrow.Author.Needs.{needs}
 use Rattle.collector.proofs.entries.word_at.Statement.{statement}
 use Rattle.collector.proofs.entries.word_at.Tie as tie
-use Rattle.collector.proofs.entries.word_at.Reads as reads
-use Rattle.collector.proofs.entries.word_at.Lts as lts
-use Rattle.cells.proofs.text.part.Reads as part-reads
-use Rattle.collector.proofs.entries.is_taken.Reads as is-taken-reads
-use Rattle.lookup.proofs.get_str.Reads as get-str-reads
 
 part-requires : tie.Need-part-requires
 part-requires c κs = search needs

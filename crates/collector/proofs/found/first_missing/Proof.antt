@@ -1,11 +1,11 @@
-use mathlib.Core.Path.{_≡_, sym, ap, _∙_}
+use mathlib.Core.Path.{_≡_, sym, _∙_}
 use mathlib.Core.Bool.{_&&_}
 use mathlib.Core.Logic.{⊎-elim}
 use borrow.Author.Tests.{eq-eqb, ne-eqb}
 use lib.Dec.{eqb}
 use lib.ListN.{getD}
 use Rattle.rules.proofs.LawsListing.{and-both, and-no-left, and-no-right}
-use Prim.Native.Nat.{_-_, _≤_}
+use Prim.Native.Nat.{_-_}
 use Rattle.collector.specs.Found.{firstMissing}
 use Rattle.collector.proofs.LawsIndex.{firstIndex-hit, firstIndex-miss, firstIndex-none}
 use borrow.Author.Needs.{needs}

@@ -1,4 +1,4 @@
-use mathlib.Core.Path.{_≡_, sym, ap, _∙_}
+use mathlib.Core.Path.{sym, ap, _∙_}
 use native.Mathlib.Omega.{arith}
 use lib.ListN.{getD}
 use Rattle.builder.specs.Spec.{indexOf}
@@ -9,11 +9,6 @@ use Rattle.collector.proofs.LawsJudge.{missing-within}
 use borrow.Author.Needs.{needs}
 use Rattle.collector.proofs.judge.ask_placed.Statement.{statement}
 use Rattle.collector.proofs.judge.ask_placed.Tie as tie
-use Rattle.collector.proofs.judge.ask_placed.Reads as reads
-use Rattle.collector.proofs.judge.ask_placed.Lts as lts
-use Rattle.collector.proofs.found.first_missing.Reads as first-missing-reads
-use Rattle.collector.proofs.judge.ask_remainders.Reads as ask-remainders-reads
-use Rattle.collector.proofs.judge.missing_at.Reads as missing-at-reads
 
 first-missing-requires : tie.Need-first-missing-requires
 first-missing-requires c κs = search needs

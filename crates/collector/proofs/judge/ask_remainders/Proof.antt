@@ -1,11 +1,10 @@
-use mathlib.Core.Path.{_≡_, sym, ap, _∙_}
+use mathlib.Core.Path.{sym, ap, _∙_}
 use mathlib.Core.Bool.{cond}
 use Prim.Native.Nat.{_+_, _-_}
 use native.Mathlib.Omega.{arith}
 use lib.ListN.{getD}
 use Rattle.cells.specs.Record.{pairAt}
 use Rattle.builder.specs.Spec.{indexOf}
-use Rattle.calls.specs.Head.{headOf}
 use Rattle.collector.specs.Judge.{lostTo, remaindersAs}
 use Rattle.collector.specs.declared.answer.Collected.the-variants.{ExtraPositionalArg, ExtraNamedArg}
 use Rattle.collector.specs.declared.judge.Judged.the-variants.{Fine, Refused}
@@ -13,10 +12,6 @@ use Rattle.collector.proofs.LawsJudge.{lost-more}
 use borrow.Author.Needs.{needs}
 use Rattle.collector.proofs.judge.ask_remainders.Statement.{statement}
 use Rattle.collector.proofs.judge.ask_remainders.Tie as tie
-use Rattle.collector.proofs.judge.ask_remainders.Reads as reads
-use Rattle.collector.proofs.judge.ask_remainders.Lts as lts
-use Rattle.cells.proofs.record.pair_at.Reads as pair-at-reads
-use Rattle.collector.proofs.judge.lost.Reads as lost-reads
 
 add-total : tie.Need-add-total
 add-total c = search needs

@@ -6,8 +6,6 @@ use Rattle.collector.proofs.LawsJudge.{lost-not}
 use borrow.Author.Needs.{needs}
 use Rattle.collector.proofs.judge.lost.Statement.{statement}
 use Rattle.collector.proofs.judge.lost.Tie as tie
-use Rattle.collector.proofs.judge.lost.Reads as reads
-use Rattle.collector.proofs.judge.lost.Lts as lts
 
 returns : tie.Need-returns
 returns c = sym (lost-not (c .before .args .count) (c .before .args .room) (c .if1 .taken) (indexOf (c .before .args .taker)))

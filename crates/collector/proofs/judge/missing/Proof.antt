@@ -1,11 +1,8 @@
 use mathlib.Core.Path.{sym, ap}
 use Rattle.collector.specs.Judge.{missingAs}
 use Rattle.collector.proofs.LawsJudge.{missing-other}
-use borrow.Author.Needs.{needs}
 use Rattle.collector.proofs.judge.missing.Statement.{statement}
 use Rattle.collector.proofs.judge.missing.Tie as tie
-use Rattle.collector.proofs.judge.missing.Reads as reads
-use Rattle.collector.proofs.judge.missing.Lts as lts
 
 returns : tie.Need-returns
 returns c = sym (ap (λ n. missingAs n (c .before .args .name)) (c .match .keys1))

@@ -1,16 +1,11 @@
 -- `collector::resolve::found_at` meets its contract: the name is the part that the pair's key names. Assumes nothing.
-use mathlib.Core.Path.{sym, ap, _∙_}
+use mathlib.Core.Path.{ap, _∙_}
 use Rattle.cells.specs.Text.{partAt}
 use Rattle.lookup.specs.Lookup.{findIn}
 use Rattle.collector.specs.Resolve.{foundAt}
 use borrow.Author.Needs.{needs}
 use Rattle.collector.proofs.resolve.found_at.Statement.{statement}
 use Rattle.collector.proofs.resolve.found_at.Tie as tie
-use Rattle.collector.proofs.resolve.found_at.Reads as reads
-use Rattle.collector.proofs.resolve.found_at.Lts as lts
-use Rattle.cells.proofs.record.pair_at.Reads as pair-at-reads
-use Rattle.cells.proofs.text.part.Reads as part-reads
-use Rattle.lookup.proofs.get_str.Reads as get-str-reads
 
 pair-at-requires : tie.Need-pair-at-requires
 pair-at-requires c κs = search needs

@@ -8,10 +8,6 @@ use Rattle.collector.proofs.LawsNames.{naming-below, naming-room, namin
 use borrow.Author.Needs.{needs}
 use Rattle.collector.proofs.resolve.resolve_names.Statement.{statement}
 use Rattle.collector.proofs.resolve.resolve_names.Tie as tie
-use Rattle.collector.proofs.resolve.resolve_names.Reads as reads
-use Rattle.collector.proofs.resolve.resolve_names.Lts as lts
-use Rattle.collector.proofs.resolve.enter.Reads as enter-reads
-use Rattle.collector.proofs.resolve.found_at.Reads as found-at-reads
 
 abbrev Inv-loop : tie.InvT-loop
 Inv-loop list spec cells area from n sources₀ rest₀ count₀ k₀ sources rest count k = (k ≤ n) × Resolved (parametersIn spec (list .params)) cells area (pairsFrom area cells from k) sources rest count

@@ -1,9 +1,8 @@
-use mathlib.Core.Path.{_≡_, sym, ap, ap₂, _∙_}
+use mathlib.Core.Path.{sym, ap, _∙_}
 use Prim.Native.Nat.{ℕ}
-use borrow.Author.Tests.{lt-ltb, le-ltb}
 use lib.ListN.{getD}
 use Rattle.rules.specs.Placement.{taken}
-use Rattle.cells.specs.Value.{value, pairOf}
+use Rattle.cells.specs.Value.{pairOf}
 use Rattle.cells.specs.Record.{pairAt}
 use Rattle.calls.specs.Head.{headOf}
 use Rattle.collector.specs.Slots.{unfilledAs}
@@ -11,12 +10,6 @@ use Rattle.collector.proofs.LawsSlots.{slot-below, slot-named, slot-unf
 use borrow.Author.Needs.{needs}
 use Rattle.collector.proofs.slots.slot_at.Statement.{statement}
 use Rattle.collector.proofs.slots.slot_at.Tie as tie
-use Rattle.collector.proofs.slots.slot_at.Reads as reads
-use Rattle.collector.proofs.slots.slot_at.Lts as lts
-use Rattle.calls.proofs.place.position_at.Reads as position-at-reads
-use Rattle.cells.proofs.record.pair_at.Reads as pair-at-reads
-use Rattle.cells.proofs.value.Pair.new.Reads as new-reads
-use Rattle.collector.proofs.slots.Slot.unfilled.Reads as unfilled-reads
 
 position-at-requires : tie.Need-position-at-requires
 position-at-requires c κs = search needs

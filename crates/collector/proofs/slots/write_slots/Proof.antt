@@ -1,5 +1,5 @@
-use mathlib.Core.Path.{_≡_, refl, sym, ap, ap₂, subst, _∙_}
-use Prim.Native.Nat.{_-_, _+_, _*_, _≤_}
+use mathlib.Core.Path.{_≡_, refl, ap, subst, _∙_}
+use Prim.Native.Nat.{_-_, _≤_}
 use native.Mathlib.Omega.{arith}
 use lib.ListN.{length}
 use mathlib.Core.Bool.{cond}
@@ -10,13 +10,6 @@ use Rattle.collector.proofs.LawsWrite.{at-most-one, slot-taken, slot-de
 use borrow.Author.Needs.{needs}
 use Rattle.collector.proofs.slots.write_slots.Statement.{statement}
 use Rattle.collector.proofs.slots.write_slots.Tie as tie
-use Rattle.collector.proofs.slots.write_slots.Reads as reads
-use Rattle.collector.proofs.slots.write_slots.Lts as lts
-use Rattle.cells.proofs.out.put.Reads as put-reads
-use Rattle.collector.proofs.slots.Slot.defaulted.Reads as defaulted-reads
-use Rattle.collector.proofs.slots.Slot.pair.Reads as pair-reads
-use Rattle.collector.proofs.slots.Slot.taken.Reads as taken-reads
-use Rattle.collector.proofs.slots.slot_at.Reads as slot-at-reads
 
 abbrev Inv-loop : tie.InvT-loop
 Inv-loop codes kinds payloads sources cells h next len star named board₀ taken₀ defaulted₀ k₀ board taken defaulted k =

@@ -6,9 +6,6 @@ use Rattle.collector.specs.Slots.{slotIn}
 use borrow.Author.Needs.{needs}
 use Rattle.collector.proofs.slots.Slot.pair.Statement.{statement}
 use Rattle.collector.proofs.slots.Slot.pair.Tie as tie
-use Rattle.collector.proofs.slots.Slot.pair.Reads as reads
-use Rattle.collector.proofs.slots.Slot.pair.Lts as lts
-use Rattle.cells.proofs.value.Pair.new.Reads as new-reads
 
 enum-told : tie.Need-enum-told
 enum-told c = search needs

@@ -2,11 +2,8 @@ use mathlib.Core.Path.{sym, ap}
 use Rattle.cells.specs.Value.{pairOf}
 use Rattle.collector.specs.Slots.{unfilledAs}
 use Rattle.collector.proofs.LawsSlots.{unfilled-other}
-use borrow.Author.Needs.{needs}
 use Rattle.collector.proofs.slots.Slot.unfilled.Statement.{statement}
 use Rattle.collector.proofs.slots.Slot.unfilled.Tie as tie
-use Rattle.collector.proofs.slots.Slot.unfilled.Reads as reads
-use Rattle.collector.proofs.slots.Slot.unfilled.Lts as lts
 
 returns : tie.Need-returns
 returns c = sym (ap (λ n. unfilledAs n (pairOf (c .before .args .default))) (c .match .keys1))
