@@ -18,12 +18,14 @@ pub record Part : Type 0 where
 unfoldable pub partOf : Area → Text → Part
 partOf area t = record { area = area; start = startOf (t .payload); size = sizeOf (t .payload) }
 
--- what a refusal carries besides its number: nothing, a name, a count, or a count with the first name counted
+-- what a refusal carries besides its number: nothing, a name, a count, a count with the first name counted, or (26) the least and the
+-- greatest number that would do and the number that was given
 pub data Detail : Type 0 where
   none : Detail
   name : Part → Detail
   count : ℕ → Detail
   countAndName : ℕ → Part → Detail
+  bounds : ℕ → ℕ → ℕ → Detail
 
 pub data Answer : Type 0 where
   fine : Answer

@@ -19,3 +19,6 @@ pub mod CanFill
 pub mod Examples
 pub mod Demand3
 pub mod CutExamples
+pub mod Accessors
+pub mod Reader
+pub mod Printed
