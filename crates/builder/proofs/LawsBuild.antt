@@ -13,12 +13,12 @@ use Rattle.cells.specs.declared.answer.Answer.the-variants.{Fine, Refused}
 use Rattle.builder.specs.declared.spec.ParametersSpecBuilder.{ParametersSpecBuilder}
 use Rattle.builder.specs.declared.spec.Stepped.{Stepped}
 use Rattle.builder.specs.declared.spec.Finished.{Finished}
-use Rattle.builder.specs.Listed.{listed}
+use Rattle.cells.specs.Listed.{listed}
 use Rattle.builder.specs.Record.{stepAt}
 use Rattle.cells.specs.Answer.{answerOf}
 use Rattle.builder.specs.Spec.{Built, Empty, Stepping, Finishing, NoList, styleIn, listIn, finished}
 use Rattle.builder.specs.Build.{Taking, IsList, Building}
-use Rattle.builder.proofs.LawsListed.{listed-next, listed-end}
+use Rattle.cells.proofs.LawsListed.{listed-next, listed-end}
 use Rattle.builder.proofs.LawsRecord.{steps-listed}
 use Rattle.builder.proofs.LawsSpec.{never-fine}
 

@@ -16,7 +16,7 @@ use Rattle.rules.specs.Parameters.{Style, posOnly, posOrNamed, namedOnly, noMor
 use Rattle.builder.specs.declared.params.Parameters.{Parameters}
 use Rattle.builder.specs.Params.{styleFor, kindFor, parameterOf, parameterAt, parametersIn, mayBeNamed}
 use Rattle.builder.proofs.LawsCodes.{code-0, plain-code, plain-above}
-use Rattle.builder.proofs.LawsListed.{listed-more, listed-same, snoc-same}
+use Rattle.cells.proofs.LawsListed.{listed-more, listed-same, snoc-same}
 
 pub styleFor-rank : (s : Style) → styleFor (rank s) ≡ s
 styleFor-rank posOnly = refl

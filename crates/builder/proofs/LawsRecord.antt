@@ -22,10 +22,10 @@ use Rattle.cells.specs.declared.text.ReadText.the-variants as text
 use Rattle.cells.specs.declared.value.Value.{Value as CodeValue}
 use Rattle.cells.specs.declared.value.ReadValue.the-variants as value
 use Rattle.builder.specs.declared.params.Step.{Step}
-use Rattle.builder.specs.Listed.{listed}
+use Rattle.cells.specs.Listed.{listed}
 use Rattle.builder.specs.Params.{stepOf}
 use Rattle.builder.specs.Record.{stepAt}
-use Rattle.builder.proofs.LawsListed.{listed-end, all-stop, all-next}
+use Rattle.cells.proofs.LawsListed.{listed-end, all-stop, all-next}
 use Rattle.builder.proofs.LawsCodes.{code-0, code-8, isCode-7, hasName-3, hasName-4, usesRight-2, usesRight-7}
 
 readEach-listed : (cells : List ℕ) (i n : ℕ) → readEach 4 readStep n (drop (1 + 4 * i) cells) ≡ listed (stepAt cells) i n

@@ -21,7 +21,7 @@ use Rattle.cells.specs.declared.answer.Answer.the-variants.{Fine, Refused}
 use Rattle.builder.specs.declared.spec.ParametersSpecBuilder.{ParametersSpecBuilder}
 use Rattle.builder.specs.Params.{styleOf, kindFor, stepOf, parametersIn, Pushed}
 use Rattle.builder.specs.Spec.{SoFar, Built, Stepping, refusedBy, underStyle, styleIn, listIn, indexOf}
-use Rattle.builder.proofs.LawsListed.{length-listed, tally-snoc, first-snoc, orFirst}
+use Rattle.cells.proofs.LawsListed.{length-listed, tally-snoc, first-snoc, orFirst}
 use Rattle.builder.proofs.LawsCodes.{code-8, mayStand-star}
 use Rattle.builder.proofs.LawsAsk.{askStep-5, askStep-slash, askStep-star, askStep-6, askStep-7, askStep-fine, mayStand-plain, nextStyle-plain, isArgs-plain, isKwargs-plain, act-code, act-plain, kind-plain}
 

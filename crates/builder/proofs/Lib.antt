@@ -1,5 +1,4 @@
 -- What the proofs of several functions share.
-pub mod LawsListed
 pub mod LawsCodes
 pub mod LawsParams
 pub mod LawsAsk

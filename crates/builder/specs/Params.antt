@@ -8,7 +8,7 @@ use Rattle.rules.specs.Text.{textIn}
 use Rattle.rules.specs.Value.{Value, noValue}
 use Rattle.rules.specs.ParameterRecord.{Step as RecordStep}
 use Rattle.rules.specs.Parameters.{Style, posOnly, posOrNamed, namedOnly, noMore, ParameterKind, kwargs, Act, adds, slash, bareStar, unknownCode, actOf, Parameter, plain, takesName}
-use Rattle.builder.specs.Listed.{listed}
+use Rattle.cells.specs.Listed.{listed}
 use Rattle.builder.specs.declared.params.CurrentParameterStyle.{CurrentParameterStyle}
 use Rattle.builder.specs.declared.params.CurrentParameterStyle.the-variants.{PosOnly, PosOrNamed, NamedOnly, NoMore}
 use Rattle.builder.specs.declared.params.Parameters.{Parameters}

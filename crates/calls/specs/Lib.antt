@@ -3,3 +3,4 @@ pub mod Head
 pub mod Places
 pub mod Runs
 pub mod Keys
+pub mod Values

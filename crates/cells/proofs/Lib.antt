@@ -5,3 +5,5 @@ pub mod LawsReading
 pub mod LawsValue
 pub mod LawsRecord
 pub mod LawsOut
+pub mod LawsListed
+pub mod LawsWrite

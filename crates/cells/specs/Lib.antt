@@ -4,3 +4,4 @@ pub mod Text
 pub mod Value
 pub mod Record
 pub mod Out
+pub mod Listed

@@ -2,7 +2,7 @@
 use crate::compare::Place;
 use crate::compare::same;
 use crate::numbers::take;
-use collector::answer::Collected;
+use answers::answer::Collected;
 use collector::can_fill::CanFill;
 
 // The area of a name, as the input has it.

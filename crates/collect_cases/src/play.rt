@@ -11,10 +11,10 @@ use crate::numbers::area;
 use crate::numbers::counted;
 use crate::numbers::first;
 use crate::numbers::take;
-use collector::answer::Collected;
+use answers::answer::Collected;
 use collector::can_fill::can_fill_with_args;
 use collector::collect::collect;
-use collector::detail::name_of;
+use answers::detail::name_of;
 
 // Room for an area whose last text starts as far on as a text can start, and for a board with cells to spare.
 const AREA: usize = 65792;

@@ -19,19 +19,19 @@ use Rattle.builder.specs.Params.{parametersIn}
 use Rattle.builder.specs.Spec.{indexOf}
 use Rattle.builder.specs.declared.spec.Index.{Index}
 use Rattle.builder.specs.declared.spec.ParametersSpec.{ParametersSpec}
-use Rattle.builder.proofs.LawsListed.{listed-next, listed-more}
+use Rattle.cells.proofs.LawsListed.{listed-next, listed-more}
 use Rattle.calls.specs.Head.{namedFrom}
 use Rattle.lookup.specs.declared.Finding.{Finding}
 use Rattle.lookup.specs.Lookup.{findingOf}
 use Rattle.cells.specs.Text.{partAt}
 use Rattle.cells.specs.Record.{pairAt}
-use Rattle.collector.specs.Resolved.{namedAt}
-use Rattle.collector.specs.Resolve.{foundAt, Below}
+use Rattle.findings.specs.Resolved.{namedAt}
+use Rattle.findings.specs.Resolve.{foundAt, Below}
 use Rattle.collector.specs.CanFill.{isThere, bytesFrom, writtenIn, freeFor, namedAfter, FillReady, NamesReady, NamesFilled}
-use Rattle.collector.specs.Found.{firstMissing}
-use Rattle.collector.proofs.LawsEntries.{findIn-below}
-use Rattle.collector.proofs.LawsAsked.{isSome}
-use Rattle.collector.proofs.LawsNames.{anyParameter, listed-split, length-list, few-list, found-is}
+use Rattle.findings.specs.Found.{firstMissing}
+use Rattle.findings.proofs.LawsEntries.{findIn-below}
+use Rattle.findings.proofs.LawsAsked.{isSome}
+use Rattle.findings.proofs.LawsNames.{anyParameter, listed-split, length-list, few-list, found-is}
 use Rattle.collector.proofs.LawsFilling.{or-true, Counted, counted-none, counted-more, counted-stop, counted-end, left-first, required-at, there-is, args-there, kwargs-there}
 
 -- ---- the written names, one by one

@@ -26,25 +26,26 @@ use Rattle.rules.proofs.LawsRecord.{length-writeEach}
 use Rattle.rules.proofs.LawsShort.{tally-most, binding-short, counts-short, written-short}
 use Rattle.cells.specs.Record.{pairAt}
 use Rattle.cells.specs.Out.{stored}
-use Rattle.builder.specs.Listed.{listed}
+use Rattle.cells.specs.Listed.{listed}
 use Rattle.builder.specs.Params.{parametersIn}
 use Rattle.builder.specs.declared.spec.ParametersSpec.{ParametersSpec}
-use Rattle.builder.proofs.LawsListed.{length-listed}
-use Rattle.collector.specs.Answer.{told, answerIn, isRefusal, countsOf}
+use Rattle.cells.proofs.LawsListed.{length-listed}
+use Rattle.answers.specs.Answer.{told, answerIn, isRefusal, countsOf}
 use Rattle.calls.specs.Head.{namedFrom, entriesFrom}
-use Rattle.collector.specs.Resolved.{namedAt, Resolved}
-use Rattle.collector.specs.EntriesDone.{entryAt}
-use Rattle.collector.specs.Board.{positionalAt, valuesIn, BoardReady, BoardWritten}
-use Rattle.collector.specs.Questions.{CallReady}
+use Rattle.findings.specs.Resolved.{namedAt, Resolved}
+use Rattle.findings.specs.EntriesDone.{entryAt}
+use Rattle.calls.specs.Values.{positionalAt, valuesIn}
+use Rattle.slots.specs.Board.{BoardReady, BoardWritten}
+use Rattle.questions.specs.Questions.{CallReady}
 use Rattle.collector.specs.Collect.{Ends, bindingOf, boundTo, isShort, ShortCall}
-use Rattle.collector.specs.declared.answer.Counts.{Counts}
-use Rattle.collector.specs.declared.answer.Collected.{Collected}
-use Rattle.collector.specs.declared.answer.Collected.the-variants.{Accepted, Record, ArgsArrayIsNotIterable, RepeatedParameter, KwArgsIsNotDict, ArgsValueIsNotString, RepeatedArg, MissingPositionalOnly, Missing, MissingNamedOnly, ExtraPositionalArg, ExtraNamedArg}
-use Rattle.collector.proofs.LawsBoard.{stored-first}
-use Rattle.collector.proofs.LawsWrite.{valueCells-two}
+use Rattle.answers.specs.declared.answer.Counts.{Counts}
+use Rattle.answers.specs.declared.answer.Collected.{Collected}
+use Rattle.answers.specs.declared.answer.Collected.the-variants.{Accepted, Record, ArgsArrayIsNotIterable, RepeatedParameter, KwArgsIsNotDict, ArgsValueIsNotString, RepeatedArg, MissingPositionalOnly, Missing, MissingNamedOnly, ExtraPositionalArg, ExtraNamedArg}
+use Rattle.cells.proofs.LawsOut.{stored-first}
+use Rattle.cells.proofs.LawsWrite.{valueCells-two}
 use Rattle.collector.proofs.LawsFillable.{positionals-are}
-use Rattle.collector.proofs.LawsNames.{few-list, length-list}
-use Rattle.collector.proofs.LawsWritten.{elements, board-placed, counts-placed}
+use Rattle.findings.proofs.LawsNames.{few-list, length-list}
+use Rattle.slots.proofs.LawsWritten.{elements, board-placed, counts-placed}
 
 -- where two answers are the same outcome over the same board, they tell the same and leave the same cells
 pub paths-agree : (o : Outcome) (before after after' : List ℕ) (r r' : Collected) → Ends o before after r → Ends o before after' r' → (told r after ≡ told r' after') × (after ≡ after')

@@ -19,7 +19,7 @@ use Rattle.rules.specs.ParameterQuestions.{askParameters, listOf}
 use Rattle.rules.specs.CanFill.{canFill, refusedFilling, answered, fillable}
 use Rattle.rules.proofs.LawsListing.{and-left, and-right}
 use Rattle.cells.specs.Record.{pairAt}
-use Rattle.builder.specs.Listed.{listed}
+use Rattle.cells.specs.Listed.{listed}
 use Rattle.builder.specs.Params.{parametersIn}
 use Rattle.builder.specs.declared.spec.ParametersSpec.{ParametersSpec}
 use Rattle.calls.specs.Head.{namedFrom}
@@ -27,8 +27,8 @@ use Rattle.calls.specs.Runs.{pairsAt}
 use Rattle.calls.proofs.LawsEach.{each-length, each-at, each-map, all-at}
 use Rattle.calls.proofs.LawsForm.{pair-name}
 use Rattle.calls.proofs.LawsCall.{call-positionals, call-named, lengths-few, formed-named, form-lengths, form-parts}
-use Rattle.collector.specs.Resolved.{namedAt}
-use Rattle.collector.specs.Resolve.{Prepared}
+use Rattle.findings.specs.Resolved.{namedAt}
+use Rattle.findings.specs.Resolve.{Prepared}
 use Rattle.collector.specs.CanFill.{writtenIn, FillReady}
 
 pub name-inside : (area : List ℕ) (v : Value) → wellFormedName area v ≡ true → inside area (v .payload) ≡ true

@@ -21,24 +21,24 @@ use Rattle.rules.specs.Placement.{fromP}
 use Rattle.rules.specs.CanFill.{fillings, filledTwice, leftEmpty}
 use Rattle.rules.proofs.LawsListing.{and-left, and-right, and-no-left, and-no-right, or-neither, tally-append}
 use Rattle.rules.proofs.LawsFound.{fromP-at}
-use Rattle.builder.specs.Listed.{listed}
+use Rattle.cells.specs.Listed.{listed}
 use Rattle.builder.specs.Spec.{indexOf}
 use Rattle.builder.specs.Params.{parameterOf, parameterAt, parametersIn}
 use Rattle.builder.specs.declared.params.Parameters.{Parameters}
 use Rattle.builder.specs.declared.spec.Index.{Index}
 use Rattle.builder.specs.declared.spec.Index.the-variants as index
-use Rattle.builder.proofs.LawsListed.{length-listed, tally-snoc}
+use Rattle.cells.proofs.LawsListed.{length-listed, tally-snoc}
 use Rattle.lookup.specs.declared.Finding.{Finding}
 use Rattle.lookup.specs.declared.Finding.the-variants.{At, Unknown}
 use Rattle.lookup.specs.Lookup.{findingOf}
-use Rattle.collector.specs.Found.{firstIndex, firstMissing}
+use Rattle.findings.specs.Found.{firstIndex, firstMissing}
 use Rattle.collector.specs.CanFill.{isThere, freeFor, namedAfter}
-use Rattle.collector.proofs.LawsIndex.{firstIndex-from}
-use Rattle.collector.proofs.LawsAsked.{isSome, any-first}
-use Rattle.collector.proofs.LawsNames.{anyParameter}
-use Rattle.collector.proofs.LawsPlaced.{getD-listed, required-code}
-use Rattle.collector.proofs.LawsAskPlaced.{args-found, kwargs-found}
-use Rattle.collector.proofs.LawsResolved.{named-at, known-at, find-within}
+use Rattle.findings.proofs.LawsIndex.{firstIndex-from}
+use Rattle.findings.proofs.LawsAsked.{isSome, any-first}
+use Rattle.findings.proofs.LawsNames.{anyParameter}
+use Rattle.slots.proofs.LawsPlaced.{getD-listed, required-code}
+use Rattle.questions.proofs.LawsAskPlaced.{args-found, kwargs-found}
+use Rattle.findings.proofs.LawsResolved.{named-at, known-at, find-within}
 
 -- ---- tests over a list
 

@@ -18,7 +18,7 @@ use Rattle.rules.specs.Binding.{textsOf}
 use Rattle.rules.specs.Collection.{callOf}
 use Rattle.rules.proofs.LawsListing.{and-left, map-map}
 use Rattle.cells.specs.Record.{pairAt}
-use Rattle.builder.specs.Listed.{listed}
+use Rattle.cells.specs.Listed.{listed}
 use Rattle.builder.specs.declared.spec.ParametersSpec.{ParametersSpec}
 use Rattle.calls.specs.Head.{Few, namedFrom, entriesFrom}
 use Rattle.calls.specs.Runs.{pairsAt}
@@ -26,11 +26,11 @@ use Rattle.calls.proofs.LawsEach.{each-length, each-at, each-map, all-at}
 use Rattle.calls.proofs.LawsForm.{entry-key}
 use Rattle.calls.proofs.LawsCall.{names-by, lengths-few, formed-entries, form-lengths, form-kinds, form-parts, call-form, call-names}
 use Rattle.calls.proofs.LawsPlaces.{named-run, entries-run, positionals-length, star-passes, double-passes, positional-at}
-use Rattle.collector.specs.Resolved.{namedAt}
-use Rattle.collector.specs.Resolve.{Prepared, Pairs}
-use Rattle.collector.specs.EntriesDone.{writtenNames, entryAt, entriesIn}
-use Rattle.collector.specs.Board.{positionalAt}
-use Rattle.collector.specs.Questions.{CallReady}
+use Rattle.findings.specs.Resolved.{namedAt}
+use Rattle.findings.specs.Resolve.{Prepared, Pairs}
+use Rattle.findings.specs.EntriesDone.{writtenNames, entryAt, entriesIn}
+use Rattle.calls.specs.Values.{positionalAt}
+use Rattle.questions.specs.Questions.{CallReady}
 use Rattle.collector.proofs.LawsFillable.{name-inside, pairs-listed, name-formed}
 
 -- ---- runs of pairs, by index

@@ -14,7 +14,7 @@ use Rattle.rules.specs.Parameters.{Parameter, positionalCount, hasKwargs}
 use Rattle.rules.specs.Lookup.{names, known}
 use Rattle.rules.specs.CanFill.{Filling, refusedFilling, answered, filledTwice}
 use Rattle.cells.specs.Record.{pairAt}
-use Rattle.builder.specs.Listed.{listed}
+use Rattle.cells.specs.Listed.{listed}
 use Rattle.builder.specs.Params.{parametersIn}
 use Rattle.builder.specs.declared.spec.Index.{Index}
 use Rattle.builder.specs.declared.spec.Index.the-variants as index
@@ -22,8 +22,8 @@ use Rattle.builder.specs.declared.spec.ParametersSpec.{ParametersSpec}
 use Rattle.calls.specs.Head.{Few, namedFrom}
 use Rattle.lookup.specs.declared.Finding.{Finding}
 use Rattle.lookup.specs.declared.Finding.the-variants.{At, Unknown}
-use Rattle.collector.specs.Resolved.{namedAt}
-use Rattle.collector.specs.Resolve.{Prepared}
+use Rattle.findings.specs.Resolved.{namedAt}
+use Rattle.findings.specs.Resolve.{Prepared}
 use Rattle.collector.specs.declared.can_fill.CanFill.{CanFill}
 use Rattle.collector.specs.declared.can_fill.CanFill.the-variants.{Refused, Answer}
 

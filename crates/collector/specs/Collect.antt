@@ -12,10 +12,10 @@ use Rattle.rules.specs.CallQuestions.{askCall, askBoard}
 use Rattle.rules.specs.Binding.{askBinding}
 use Rattle.rules.specs.Collection.{Outcome, outcomeOf, boardLeft, callOf}
 use Rattle.builder.specs.declared.spec.ParametersSpec.{ParametersSpec}
-use Rattle.collector.specs.Answer.{told}
-use Rattle.collector.specs.Board.{valuesIn}
-use Rattle.collector.specs.Questions.{CallReady}
-use Rattle.collector.specs.declared.answer.Collected.{Collected}
+use Rattle.answers.specs.Answer.{told}
+use Rattle.calls.specs.Values.{valuesIn}
+use Rattle.questions.specs.Questions.{CallReady}
+use Rattle.answers.specs.declared.answer.Collected.{Collected}
 
 -- an answer, with the board before and after it, is an outcome of `rules`: number and detail, or the counts; and every cell of the board
 pub record Ends (outcome : Outcome) (before after : List ℕ) (r : Collected) : Type 0 where

@@ -1,7 +1,7 @@
 // Can-fill (01, collector and can-fill): whether a call fills a parameter list, by how many positionals and which names are written.
 // Reworked from starlark 0.14.2, src/eval/runtime/params/spec.rs (can_fill_with_args_impl), Apache-2.0.
-use crate::found::first_missing;
-use crate::resolve::found_at;
+use findings::found::first_missing;
+use findings::resolve::found_at;
 use builder::build;
 use builder::spec::Index;
 use builder::spec::ParametersSpec;
@@ -18,7 +18,7 @@ ghost use Prim.Native.Nat.{min};
 ghost use Rattle.rules.specs.CanFill.{canFill, fillable};
 ghost use Rattle.builder.specs.Params.{parametersIn};
 ghost use Rattle.calls.specs.Head.{headOf};
-ghost use Rattle.collector.specs.Resolve.{Below};
+ghost use Rattle.findings.specs.Resolve.{Below};
 ghost use Rattle.collector.specs.CanFill.{fillingIn, isThere, writtenIn, freeFor, namedAfter, FillReady, NamesReady, NamesFilled};
 
 // Refused by one of questions 1 to 11, or yes or no.

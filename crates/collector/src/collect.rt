@@ -1,14 +1,14 @@
 // Collection (01, collector): a call bound against a parameter list, and its values put on the board. All questions are asked before the
 // first cell is written, so a refusal leaves the board as it was.
 // Reworked from starlark 0.14.2, src/eval/runtime/params/spec.rs (collect_inline_impl, collect_slow), Apache-2.0.
-use crate::answer::Collected;
-use crate::answer::Counts;
-use crate::board::write_board;
-use crate::board::write_values;
+use answers::answer::Collected;
+use answers::answer::Counts;
+use slots::board::write_board;
+use calls::values::write_values;
 use crate::can_fill::least;
-use crate::judge::Judged;
-use crate::questions::judge;
-use crate::resolve::NAMED;
+use questions::judge::Judged;
+use questions::questions::judge;
+use findings::resolve::NAMED;
 use builder::build;
 use builder::spec::ParametersSpec;
 use calls::ask_call;
@@ -24,7 +24,7 @@ ghost use Rattle.rules.specs.Parameters.{Parameter};
 ghost use Rattle.rules.specs.Collection.{callOf, collection};
 ghost use Rattle.builder.specs.Params.{parametersIn};
 ghost use Rattle.calls.specs.Head.{headOf};
-ghost use Rattle.collector.specs.Resolve.{Prepared};
+ghost use Rattle.findings.specs.Resolve.{Prepared};
 ghost use Rattle.collector.specs.Collect.{Ends, bindingOf, boundTo, isShort, ShortCall, SlowReady};
 
 // A board holds 64 slots, a star remainder of 128 values and a named remainder of 128 pairs.

@@ -1,14 +1,5 @@
 // The collector (01, collector and can-fill): a call bound against a parameter list, and whether it can be.
 // Reworked from starlark 0.14.2, src/eval/runtime/params/spec.rs, Apache-2.0.
 
-pub mod answer;
-pub mod board;
 pub mod can_fill;
 pub mod collect;
-pub mod detail;
-pub mod entries;
-pub mod found;
-pub mod judge;
-pub mod questions;
-pub mod resolve;
-pub mod slots;

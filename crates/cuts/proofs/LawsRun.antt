@@ -16,7 +16,7 @@ use Rattle.cells.specs.Out.{stored}
 use Rattle.cells.specs.Record.{pairAt}
 use Rattle.calls.proofs.LawsEach.{each-length}
 use Rattle.cuts.specs.Record.{runOf}
-use Rattle.collector.proofs.LawsBoard.{stored-stored}
+use Rattle.cells.proofs.LawsOut.{stored-stored}
 
 pub run-length : (cells : List ℕ) (from count : ℕ) → length (runOf cells from count) ≡ 2 * count
 unfolding valueWidth

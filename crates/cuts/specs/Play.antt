@@ -18,10 +18,10 @@ use Rattle.rules.specs.Placement.{Counts}
 use Rattle.rules.specs.Collection.{Outcome, refused, accepted, boardLeft, callOf, collection}
 use Rattle.rules.specs.CanFill.{answered, fillable}
 use Rattle.rules.specs.Demand3.{Cut, merge, isAccepted, Domain, cutCells, ending, Placed}
-use Rattle.collector.specs.Answer.{told}
+use Rattle.answers.specs.Answer.{told}
 use Rattle.collector.specs.CanFill.{fillingIn}
 use Rattle.collector.specs.Collect.{Ends}
-use Rattle.collector.specs.declared.answer.Collected.{Collected}
+use Rattle.answers.specs.declared.answer.Collected.{Collected}
 use Rattle.collector.specs.declared.can_fill.CanFill.{CanFill}
 use Rattle.cuts.specs.Record.{valuesOf, pairsOf}
 use Rattle.cuts.specs.declared.Played.{Played}

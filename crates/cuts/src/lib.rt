@@ -5,7 +5,7 @@ use calls::head::HEAD;
 use calls::head::PAIR;
 use calls::head::VALUE;
 use cells::answer::Answer;
-use collector::answer::Collected;
+use answers::answer::Collected;
 use collector::can_fill::CanFill;
 use collector::can_fill::can_fill_with_args;
 use collector::collect::BOARD;

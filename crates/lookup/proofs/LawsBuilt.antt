@@ -19,7 +19,7 @@ use Rattle.builder.specs.declared.params.Parameters.{Parameters}
 use Rattle.cells.specs.declared.answer.Answer.the-variants.{Fine}
 use Rattle.builder.specs.declared.spec.ParametersSpec.{ParametersSpec}
 use Rattle.builder.specs.declared.spec.Finished.{Finished}
-use Rattle.builder.specs.Listed.{listed}
+use Rattle.cells.specs.Listed.{listed}
 use Rattle.builder.specs.Params.{mayBeNamed, parameterOf, parameterAt, parametersIn}
 use Rattle.cells.specs.Answer.{answerOf}
 use Rattle.builder.specs.Build.{Building, IsList}

@@ -8,7 +8,7 @@ use Rattle.rules.specs.Listing.{all}
 use Rattle.rules.specs.ParameterRecord.{readParameters}
 use Rattle.rules.specs.Parameters.{act}
 use Rattle.rules.specs.ParameterQuestions.{isCode, codesKnown}
-use Rattle.builder.specs.Listed.{listed}
+use Rattle.cells.specs.Listed.{listed}
 use Rattle.builder.specs.Record.{stepAt}
 use Rattle.builder.proofs.LawsRecord.{each-start, each-stop, each-next, each-end}
 use Rattle.builder.proofs.record.codes_known.Statement.{statement}

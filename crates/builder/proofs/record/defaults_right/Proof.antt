@@ -9,7 +9,7 @@ use Rattle.rules.specs.ParameterRecord.{readParameters}
 use Rattle.rules.specs.Parameters.{act}
 use Rattle.rules.specs.ParameterQuestions.{usesRight, defaultsRight}
 use Rattle.builder.specs.Params.{stepOf}
-use Rattle.builder.specs.Listed.{listed}
+use Rattle.cells.specs.Listed.{listed}
 use Rattle.builder.specs.Record.{stepAt}
 use Rattle.builder.proofs.LawsRecord.{each-start, each-stop, each-next, each-end}
 use Rattle.builder.proofs.record.defaults_right.Statement.{statement}

@@ -7,7 +7,7 @@ use borrow.Author.Needs.{needs}
 use Rattle.rules.specs.Listing.{all}
 use Rattle.rules.specs.ParameterRecord.{readParameters}
 use Rattle.rules.specs.ParameterQuestions.{stepName, namesInside}
-use Rattle.builder.specs.Listed.{listed}
+use Rattle.cells.specs.Listed.{listed}
 use Rattle.builder.specs.Record.{stepAt}
 use Rattle.builder.proofs.LawsRecord.{each-start, each-stop, each-next, each-end, function-not, function-named}
 use Rattle.builder.proofs.record.names_inside.Statement.{statement}

@@ -6,7 +6,7 @@ use Rattle.rules.specs.CallQuestions.{askForm}
 use Rattle.rules.specs.CanFill.{answered}
 use Rattle.cells.specs.Answer.{answerOf}
 use Rattle.calls.specs.Head.{headOf}
-use Rattle.collector.proofs.LawsPrepared.{built-fine, built-list, built-prepared}
+use Rattle.findings.proofs.LawsPrepared.{built-fine, built-list, built-prepared}
 use Rattle.collector.proofs.LawsFillable.{fill-ready, fillable-record, fillable-call, fillable-answered}
 use borrow.Author.Needs.{needs}
 use Rattle.collector.proofs.can_fill.can_fill_with_args.Statement.{statement}

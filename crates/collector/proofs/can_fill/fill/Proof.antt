@@ -6,7 +6,7 @@ use native.Mathlib.Omega.{arith}
 use borrow.Author.Tests.{lt-ltb, le-ltb, eq-eqb, ne-eqb}
 use lib.Dec.{ltb, eqb}
 use lib.ListN.{getD}
-use Rattle.collector.specs.Resolve.{Below}
+use Rattle.findings.specs.Resolve.{Below}
 use Rattle.collector.specs.CanFill.{freeFor, namedAfter}
 use borrow.Author.Needs.{needs}
 use Rattle.collector.proofs.can_fill.fill.Statement.{statement}

@@ -10,7 +10,7 @@ use Rattle.rules.specs.CallRecord.{headWidth}
 use Rattle.builder.specs.Params.{parametersIn}
 use Rattle.calls.specs.Head.{headOf, namedFrom}
 use Rattle.lookup.specs.declared.Finding.{Finding}
-use Rattle.collector.specs.Resolve.{foundAt}
+use Rattle.findings.specs.Resolve.{foundAt}
 use Rattle.collector.specs.CanFill.{isThere, bytesFrom, writtenIn, freeFor}
 use Rattle.collector.proofs.LawsFilling.{Counted}
 use Rattle.collector.proofs.LawsCanFill.{found-below, names-none, names-more, names-stop, names-end}

@@ -8,7 +8,7 @@ use Rattle.rules.specs.Collection.{callOf}
 use Rattle.cells.specs.Answer.{answerOf}
 use Rattle.builder.specs.Params.{parametersIn}
 use Rattle.calls.specs.Head.{headOf}
-use Rattle.collector.specs.Questions.{CallReady}
+use Rattle.questions.specs.Questions.{CallReady}
 use Rattle.collector.specs.Collect.{Ends}
 use Rattle.collector.proofs.LawsReady.{call-ready}
 use Rattle.collector.proofs.LawsEnds.{short-call, bound-refused, bound-short-board, bound-binding}

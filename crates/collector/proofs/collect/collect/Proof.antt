@@ -4,7 +4,7 @@ use mathlib.Core.Path.{sym, ap, subst, _∙_}
 use Rattle.cells.specs.Answer.{answerOf}
 use Rattle.builder.specs.Params.{parametersIn}
 use Rattle.collector.specs.Collect.{Ends}
-use Rattle.collector.proofs.LawsPrepared.{built-fine, built-list, built-prepared}
+use Rattle.findings.proofs.LawsPrepared.{built-fine, built-list, built-prepared}
 use Rattle.collector.proofs.LawsEnds.{collection-refused, collection-bound}
 use borrow.Author.Needs.{needs}
 use Rattle.collector.proofs.collect.collect.Statement.{statement}

@@ -8,10 +8,10 @@ use Rattle.rules.specs.Binding.{askBinding}
 use Rattle.rules.specs.Collection.{callOf}
 use Rattle.builder.specs.Params.{parametersIn}
 use Rattle.calls.specs.Head.{headOf}
-use Rattle.collector.specs.Judge.{judgedAnswer, refusing}
-use Rattle.collector.specs.Questions.{CallReady}
-use Rattle.collector.proofs.LawsNames.{few-list}
-use Rattle.collector.proofs.LawsResolved.{resolved-none}
+use Rattle.questions.specs.Judge.{judgedAnswer, refusing}
+use Rattle.questions.specs.Questions.{CallReady}
+use Rattle.findings.proofs.LawsNames.{few-list}
+use Rattle.findings.proofs.LawsResolved.{resolved-none}
 use Rattle.collector.proofs.LawsEnds.{ends-refused, board-ready, slow-ends}
 use borrow.Author.Needs.{needs}
 use Rattle.collector.proofs.collect.collect_slow.Statement.{statement}

@@ -6,7 +6,7 @@ use lib.ListN.{length}
 use borrow.Author.Needs.{needs}
 use Rattle.rules.specs.Value.{valueCells}
 use Rattle.cells.specs.Out.{stored}
-use Rattle.collector.proofs.LawsBoard.{stored-none}
+use Rattle.cells.proofs.LawsOut.{stored-none}
 use Rattle.cuts.specs.Record.{runOf}
 use Rattle.cuts.proofs.LawsRun.{stored-more}
 use Rattle.cuts.proofs.record.copy_values.Statement.{statement}

@@ -9,9 +9,9 @@ use native.Mathlib.Nat.{sub-zero}
 use borrow.Author.Needs.{needs}
 use Rattle.rules.specs.Listing.{any}
 use Rattle.rules.specs.Lookup.{names, known}
-use Rattle.builder.specs.Listed.{listed}
+use Rattle.cells.specs.Listed.{listed}
 use Rattle.builder.specs.Params.{parameterAt, parametersIn}
-use Rattle.builder.proofs.LawsListed.{listed-end, any-hit, any-miss}
+use Rattle.cells.proofs.LawsListed.{listed-end, any-hit, any-miss}
 use Rattle.builder.proofs.LawsParams.{names-bytes, names-style}
 use Rattle.builder.proofs.params.Parameters.known.Statement.{statement}
 use Rattle.builder.proofs.params.Parameters.known.Tie as tie

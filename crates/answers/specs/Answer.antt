@@ -1,0 +1,79 @@
+-- 01's number and detail for each answer of collection, and the bytes of the name in a detail.
+use mathlib.Core.Bool.{Bool, true, false}
+use mathlib.Core.List.{List, []}
+use Prim.Native.Nat.{ℕ}
+use Rattle.rules.specs.Text.{startOf, sizeOf}
+use Rattle.rules.specs.Answer as rules
+use Rattle.rules.specs.Placement as placement
+use Rattle.rules.specs.Collection.{Outcome, refused, accepted}
+use Rattle.cells.specs.Text.{partAt}
+use Rattle.answers.specs.declared.answer.Counts.{Counts}
+use Rattle.answers.specs.declared.answer.Collected.{Collected}
+use Rattle.answers.specs.declared.answer.Collected.the-variants.{Accepted, Record, ArgsArrayIsNotIterable, RepeatedParameter, KwArgsIsNotDict, ArgsValueIsNotString, RepeatedArg, MissingPositionalOnly, Missing, MissingNamedOnly, ExtraPositionalArg, ExtraNamedArg}
+
+-- a payload's part of an area
+abbrev pub placeOf : rules.Area → ℕ → rules.Part
+placeOf area payload = record { area = area; start = startOf payload; size = sizeOf payload }
+
+abbrev pub countsOf : Counts → placement.Counts
+countsOf c = record { taken = c .taken; defaulted = c .defaulted; star = c .star; named = c .named }
+
+-- the outcome that an answer tells, with the board as it is left
+abbrev pub told : Collected → List ℕ → Outcome
+told (Accepted c) after = accepted (countsOf c) after
+told (Record n) after = refused n rules.none
+told ArgsArrayIsNotIterable after = refused 15 rules.none
+told (RepeatedParameter name) after = refused 16 (rules.name (placeOf rules.specArea name))
+told KwArgsIsNotDict after = refused 17 rules.none
+told ArgsValueIsNotString after = refused 18 rules.none
+told (RepeatedArg name) after = refused 19 (rules.name (placeOf rules.callArea name))
+told (MissingPositionalOnly name) after = refused 20 (rules.name (placeOf rules.specArea name))
+told (Missing name) after = refused 21 (rules.name (placeOf rules.specArea name))
+told (MissingNamedOnly name) after = refused 22 (rules.name (placeOf rules.specArea name))
+told (ExtraPositionalArg n) after = refused 23 (rules.count n)
+told (ExtraNamedArg n name) after = refused 24 (rules.countAndName n (placeOf rules.callArea name))
+
+-- the answer of 01's questions that an answer tells
+abbrev pub answerIn : Collected → rules.Answer
+answerIn (Accepted c) = rules.fine
+answerIn (Record n) = rules.refuse n rules.none
+answerIn ArgsArrayIsNotIterable = rules.refuse 15 rules.none
+answerIn (RepeatedParameter name) = rules.refuse 16 (rules.name (placeOf rules.specArea name))
+answerIn KwArgsIsNotDict = rules.refuse 17 rules.none
+answerIn ArgsValueIsNotString = rules.refuse 18 rules.none
+answerIn (RepeatedArg name) = rules.refuse 19 (rules.name (placeOf rules.callArea name))
+answerIn (MissingPositionalOnly name) = rules.refuse 20 (rules.name (placeOf rules.specArea name))
+answerIn (Missing name) = rules.refuse 21 (rules.name (placeOf rules.specArea name))
+answerIn (MissingNamedOnly name) = rules.refuse 22 (rules.name (placeOf rules.specArea name))
+answerIn (ExtraPositionalArg n) = rules.refuse 23 (rules.count n)
+answerIn (ExtraNamedArg n name) = rules.refuse 24 (rules.countAndName n (placeOf rules.callArea name))
+
+-- does an answer refuse?
+abbrev pub isRefusal : Collected → Bool
+isRefusal (Accepted c) = false
+isRefusal (Record n) = true
+isRefusal ArgsArrayIsNotIterable = true
+isRefusal (RepeatedParameter name) = true
+isRefusal KwArgsIsNotDict = true
+isRefusal ArgsValueIsNotString = true
+isRefusal (RepeatedArg name) = true
+isRefusal (MissingPositionalOnly name) = true
+isRefusal (Missing name) = true
+isRefusal (MissingNamedOnly name) = true
+isRefusal (ExtraPositionalArg n) = true
+isRefusal (ExtraNamedArg n name) = true
+
+-- the bytes of the name in an answer's detail, in the area where it stands
+abbrev pub nameBytes : List ℕ → List ℕ → Collected → List ℕ
+nameBytes spec call (Accepted c) = []
+nameBytes spec call (Record n) = []
+nameBytes spec call ArgsArrayIsNotIterable = []
+nameBytes spec call (RepeatedParameter name) = partAt spec name
+nameBytes spec call KwArgsIsNotDict = []
+nameBytes spec call ArgsValueIsNotString = []
+nameBytes spec call (RepeatedArg name) = partAt call name
+nameBytes spec call (MissingPositionalOnly name) = partAt spec name
+nameBytes spec call (Missing name) = partAt spec name
+nameBytes spec call (MissingNamedOnly name) = partAt spec name
+nameBytes spec call (ExtraPositionalArg n) = []
+nameBytes spec call (ExtraNamedArg n name) = partAt call name

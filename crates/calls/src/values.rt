@@ -1,0 +1,34 @@
+// The values of P written into lent cells (01, board and accessors).
+use crate::head::Head;
+use crate::head::VALUE;
+use crate::place::position_at;
+use cells::out::put;
+use cells::record::pair_at;
+ghost use mathlib.Core.Path.{_≡_};
+ghost use Prim.Native.Nat.{_+_, _*_, _≤_};
+ghost use lib.ListN.{length};
+ghost use Rattle.rules.specs.Cells.{writeEach};
+ghost use Rattle.rules.specs.Value.{valueCells};
+ghost use Rattle.cells.specs.Out.{stored};
+ghost use Rattle.calls.specs.Head.{headOf};
+ghost use Rattle.calls.specs.Values.{valuesIn};
+
+// `count` values of P from number `from` on, stored from cell `at` on.
+pub fn write_values(
+    cells: &[u64],
+    h: Head,
+    from: usize,
+    count: usize,
+    at: usize,
+    board: &mut [u64],
+)
+    requires { ⌜ (from ≤ 128) × (at + 2 * count ≤ length (now board)) ⌝ }
+    ensures { λ r. ⌜ now (board .exit) ≡ stored (now (board .entry)) at (writeEach valueCells (valuesIn (now (cells .entry)) (headOf h) from count)) ⌝ }
+{
+    let mut k = 0;
+    while k < count {
+        let position = position_at(h, from + k);
+        put(board, at + VALUE * k, pair_at(cells, position));
+        k += 1;
+    }
+}

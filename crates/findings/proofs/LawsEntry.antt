@@ -1,0 +1,148 @@
+-- Laws of one entry: what the code answers for it is what 18 and 19 answer, after the names that are resolved so far; and a free entry is
+-- resolved like a written name.
+-- Assumes nothing.
+use mathlib.Core.Path.{_≡_, refl, sym, ap, ap₂, _∙_}
+use mathlib.Core.Bool.{Bool, true, false, cond, not, _&&_, _||_}
+use mathlib.Core.List.{List, []}
+use Prim.Native.Nat.{ℕ, zero, suc, min}
+use native.Mathlib.Omega.{arith}
+use borrow.Author.Tests.{eqb-true}
+use lib.Dec.{eqb, ltb, leb, eqb·suc-zero}
+use lib.ListN.{length, getD}
+use Rattle.rules.specs.Text.{sizeOf, bytesAt, inside, isText, textIn, among}
+use Rattle.rules.specs.Value.{Value, callText, wellFormedKey}
+use Rattle.rules.specs.Answer.{fine, refuse, name, callArea, partOf}
+use Rattle.rules.specs.CallRecord.{Named, word, number, keyIn}
+use Rattle.rules.specs.Parameters.{Parameter, positionalCount}
+use Rattle.rules.specs.Lookup.{known, find, unknown}
+use Rattle.rules.specs.Passed.{positionalFirst, namesApart}
+use Rattle.rules.specs.Binding.{textsOf, namesFilled, askEntry}
+use Rattle.rules.proofs.LawsListing.{and-left, and-right}
+use Rattle.rules.proofs.LawsText.{payload-of-halves}
+use Rattle.rules.proofs.LawsPlacement.{isSome}
+use Rattle.rules.proofs.LawsFound.{isBelow, names-filled, among-unknown}
+use Rattle.cells.specs.Text.{textOf, partAt}
+use Rattle.cells.specs.Value.{readKey}
+use Rattle.cells.specs.Record.{pairAt, keyAt}
+use Rattle.cells.specs.declared.value.ReadKey.the-variants.{Word, Number, Not}
+use mir.Syntax.{w64}
+use mir.Val.{toZ}
+use Rattle.builder.specs.Params.{parametersIn}
+use Rattle.builder.specs.declared.spec.ParametersSpec.{ParametersSpec}
+use Rattle.lookup.specs.declared.Finding.{Finding}
+use Rattle.lookup.specs.declared.Finding.the-variants.{At, Unknown}
+use Rattle.lookup.specs.Lookup.{findingOf, findIn}
+use Rattle.lookup.proofs.LawsBuilt.{lookup-columns}
+use Rattle.answers.specs.Answer.{placeOf}
+use Rattle.findings.specs.Resolved.{sourceValue, Resolved}
+use Rattle.findings.specs.Resolve.{Prepared}
+use Rattle.findings.specs.Entries.{heldNames, takenBy, freeOr, enteredBy, wordAt, enteredAt, entryAnswer}
+use Rattle.findings.specs.declared.entries.Entered.the-variants.{Free, NotText}
+use Rattle.findings.proofs.LawsResolved.{known-at, source-among}
+use Rattle.findings.proofs.LawsNames.{anyParameter}
+
+-- ---- what is found is taken where 19 says so
+
+module _ (qs : List Parameter) (cells area : List ℕ) (P : List Value) (N : List Named) (sources rest : List ℕ) (count next : ℕ) (b : List ℕ)
+    (first : positionalFirst qs ≡ true) (apart : namesApart [] qs ≡ true) (upto : next ≡ min (length P) (positionalCount qs)) (r : Resolved qs cells area N sources rest count) where
+  taken-is : (f : Finding) → findingOf f ≡ find qs b → takenBy f next sources (heldNames area cells rest count) b ≡ (namesFilled P 0 qs b || among b (textsOf N))
+  taken-is (At i) e = ap₂ (λ x y. x || y) (sym filled) (source-is (getD sources i 0) ∙ source-among qs cells area apart N sources rest count r b i anyParameter (sym e))
+    where
+      filled : namesFilled P 0 qs b ≡ ltb i next
+      filled = names-filled qs P b anyParameter first apart ∙ ap₂ isBelow (sym upto) (sym e)
+
+      source-is : (n : ℕ) → not (eqb n 0) ≡ isSome (sourceValue cells n)
+      source-is zero = refl
+      source-is (suc n) = ap not (eqb·suc-zero n)
+  taken-is Unknown e =
+      ap (λ vs. among b (textsOf vs)) (sym (r .rest-is)) ∙ sym (among-unknown qs b N unknown-b) ∙ ap (λ x. x || among b (textsOf N)) (sym filled)
+    where
+      unknown-b : known qs b ≡ false
+      unknown-b = known-at qs cells area b unknown (sym e)
+
+      filled : namesFilled P 0 qs b ≡ false
+      filled = names-filled qs P b anyParameter first apart ∙ ap (isBelow (min (length P) (positionalCount qs))) (sym e)
+
+-- ---- a key that is well formed
+
+-- one that is a text lies inside the area
+pub key-inside : (area : List ℕ) (v : Value) → wellFormedKey area v ≡ true → eqb (v .kind) callText ≡ true → inside area (v .payload) ≡ true
+unfolding wellFormedKey isText callText
+key-inside area v e k = go (eqb (v .kind) 3) refl e
+  where
+    go : (b : Bool) → eqb (v .kind) 3 ≡ b → (b || eqb (v .kind) 6 && (inside area (v .payload) && leb 0 (sizeOf (v .payload)) && leb (sizeOf (v .payload)) 64)) ≡ true → inside area (v .payload) ≡ true
+    go true p f = absurd (omega (arith, eqb-true (v .kind) 3 p, eqb-true (v .kind) 6 k))
+    go false p f =
+        and-left (inside area (v .payload)) (leb 0 (sizeOf (v .payload)))
+        (and-left (inside area (v .payload) && leb 0 (sizeOf (v .payload))) (leb (sizeOf (v .payload)) 64)
+        (and-right (eqb (v .kind) 6) (inside area (v .payload) && leb 0 (sizeOf (v .payload)) && leb (sizeOf (v .payload)) 64) f))
+
+module _ (spec : List ℕ) (l : ParametersSpec) (cells area : List ℕ) (list : Prepared spec l) (P : List Value) (N : List Named) (sources rest : List ℕ) (count next : ℕ)
+    (upto : next ≡ min (length P) (positionalCount (parametersIn spec (l .params)))) (r : Resolved (parametersIn spec (l .params)) cells area N sources rest count)
+    (pair : ℕ) (formed : wellFormedKey area (pairAt cells pair) ≡ true) where
+  abbrev qs : List Parameter
+  qs = parametersIn spec (l .params)
+
+  abbrev found : Finding
+  found = findIn spec (l .params .codes) (l .params .styles) (l .params .names) (l .params .len) (bytesAt area (pairAt cells pair .payload))
+
+  -- the answer of the code for a key by its kind
+  entered-kind : enteredAt spec l area cells pair next sources rest count ≡ cond (eqb (pairAt cells pair .kind) callText) (wordAt spec l area cells next sources rest count (pairAt cells pair .payload)) NotText
+  unfolding enteredAt keyAt readKey textOf
+  entered-kind =
+      ap (λ b. enteredBy (cond b (cond (eqb (pairAt cells pair .kind) callText) (Word (textOf (pairAt cells pair .payload))) (Number (toZ w64 (pairAt cells pair .payload)))) Not) (wordAt spec l area cells next sources rest count)) formed
+      ∙ go (eqb (pairAt cells pair .kind) callText)
+    where
+      go : (b : Bool) → enteredBy (cond b (Word (textOf (pairAt cells pair .payload))) (Number (toZ w64 (pairAt cells pair .payload)))) (wordAt spec l area cells next sources rest count)
+          ≡ cond b (wordAt spec l area cells next sources rest count (pairAt cells pair .payload)) NotText
+      go true = ap (wordAt spec l area cells next sources rest count) (payload-of-halves (pairAt cells pair .payload))
+      go false = refl
+
+  module _ (text : eqb (pairAt cells pair .kind) callText ≡ true) where
+    found-text : findingOf found ≡ find qs (bytesAt area (pairAt cells pair .payload))
+    found-text = lookup-columns spec (bytesAt area (pairAt cells pair .payload)) (l .params) (list .is-list .room) (list .inside)
+
+    part-text : partAt area (pairAt cells pair .payload) ≡ bytesAt area (pairAt cells pair .payload)
+    unfolding partAt
+    part-text = ap (λ b. cond b (bytesAt area (pairAt cells pair .payload)) []) (key-inside area (pairAt cells pair) formed text)
+
+    word-is : wordAt spec l area cells next sources rest count (pairAt cells pair .payload)
+        ≡ freeOr (namesFilled P 0 qs (bytesAt area (pairAt cells pair .payload)) || among (bytesAt area (pairAt cells pair .payload)) (textsOf N)) (pairAt cells pair .payload) found
+    unfolding wordAt
+    word-is =
+        ap (λ b. freeOr (takenBy (findIn spec (l .params .codes) (l .params .styles) (l .params .names) (l .params .len) b) next sources (heldNames area cells rest count) b) (pairAt cells pair .payload) (findIn spec (l .params .codes) (l .params .styles) (l .params .names) (l .params .len) b)) part-text
+        ∙ ap (λ b. freeOr b (pairAt cells pair .payload) found) (taken-is qs cells area P N sources rest count next (bytesAt area (pairAt cells pair .payload)) (list .first) (list .apart) upto r found found-text)
+
+  -- the answer is that of 18 and 19
+  pub entry-answer : entryAnswer (enteredAt spec l area cells pair next sources rest count) ≡ askEntry qs P N (keyIn area (pairAt cells pair))
+  unfolding keyIn textIn partOf
+  entry-answer = ap entryAnswer entered-kind ∙ go (eqb (pairAt cells pair .kind) callText) refl
+    where
+      pick : (b : Bool) → entryAnswer (freeOr b (pairAt cells pair .payload) found) ≡ cond b (refuse 19 (name (placeOf callArea (pairAt cells pair .payload)))) fine
+      pick true = refl
+      pick false = refl
+
+      go : (b : Bool) → eqb (pairAt cells pair .kind) callText ≡ b
+          → entryAnswer (cond b (wordAt spec l area cells next sources rest count (pairAt cells pair .payload)) NotText) ≡ askEntry qs P N (cond b (word (textIn area (pairAt cells pair .payload))) (number (pairAt cells pair .payload)))
+      go true e = ap entryAnswer (word-is e) ∙ pick (namesFilled P 0 qs (bytesAt area (pairAt cells pair .payload)) || among (bytesAt area (pairAt cells pair .payload)) (textsOf N))
+      go false e = refl
+
+  -- what holds of a free entry: its key is a text, found as `rules` finds it, and none of the names before it
+  pub entry-free : (f : Finding) → enteredAt spec l area cells pair next sources rest count ≡ Free f
+      → (eqb (pairAt cells pair .kind) callText ≡ true) × (findingOf f ≡ find qs (bytesAt area (pairAt cells pair .payload))) × (among (bytesAt area (pairAt cells pair .payload)) (textsOf N) ≡ false)
+  entry-free f e = go (eqb (pairAt cells pair .kind) callText) refl (sym entered-kind ∙ e)
+    where
+      go : (b : Bool) → eqb (pairAt cells pair .kind) callText ≡ b → cond b (wordAt spec l area cells next sources rest count (pairAt cells pair .payload)) NotText ≡ Free f
+          → (b ≡ true) × (findingOf f ≡ find qs (bytesAt area (pairAt cells pair .payload))) × (among (bytesAt area (pairAt cells pair .payload)) (textsOf N) ≡ false)
+      go true k w =
+          free (namesFilled P 0 qs (bytesAt area (pairAt cells pair .payload))) (among (bytesAt area (pairAt cells pair .payload)) (textsOf N)) refl (sym (word-is k) ∙ w)
+        where
+          free : (x y : Bool) → y ≡ among (bytesAt area (pairAt cells pair .payload)) (textsOf N) → freeOr (x || y) (pairAt cells pair .payload) found ≡ Free f
+              → (true ≡ true) × (findingOf f ≡ find qs (bytesAt area (pairAt cells pair .payload))) × (among (bytesAt area (pairAt cells pair .payload)) (textsOf N) ≡ false)
+          free true y p v = let z : _≡_ {A = ℕ} 0 1 = cc in absurd (omega arith)
+          free false true p v = let z : _≡_ {A = ℕ} 0 1 = cc in absurd (omega arith)
+          free false false p v = (refl, ap findingOf same ∙ found-text k, sym p)
+            where
+              same : f ≡ found
+              same = cc
+      go false k w = let z : _≡_ {A = ℕ} 0 1 = cc in absurd (omega arith)

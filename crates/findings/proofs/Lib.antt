@@ -1,0 +1,9 @@
+-- Laws of findings, by subject.
+pub mod LawsIndex
+pub mod LawsResolved
+pub mod LawsAsked
+pub mod LawsNames
+pub mod LawsEntries
+pub mod LawsEntry
+pub mod LawsLoop
+pub mod LawsPrepared

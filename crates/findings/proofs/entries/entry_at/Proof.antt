@@ -1,0 +1,56 @@
+use mathlib.Core.Path.{sym, ap, _∙_}
+use Rattle.findings.specs.Entries.{enteredBy, wordAt, enteredAt}
+use borrow.Author.Needs.{needs}
+use Rattle.findings.proofs.entries.entry_at.Statement.{statement}
+use Rattle.findings.proofs.entries.entry_at.Tie as tie
+
+key-at-requires : tie.Need-key-at-requires
+key-at-requires c κs = search needs
+
+enum-known-t : tie.Need-enum-known-t
+enum-known-t c = search needs
+
+payload-requires : tie.Need-payload-requires
+payload-requires c κs = search needs
+
+word-at-requires : tie.Need-word-at-requires
+word-at-requires c κs = search needs
+
+enum-told : tie.Need-enum-told
+enum-told c = search needs
+
+enum-told-2 : tie.Need-enum-told-2
+enum-told-2 c = search needs
+
+returns : tie.Need-returns
+unfolding enteredAt
+returns c =
+    let a = c .before .before .before .before .before .before .before .before .before .args in
+    c .word-at .ensures ∙ ap (wordAt (a .spec .now) (a .list) (a .area .now) (a .cells .now) (a .next) (a .sources .now) (a .rest .now) (a .count)) (c .before .payload .ensures)
+    ∙ sym (ap (λ k. enteredBy k (wordAt (a .spec .now) (a .list) (a .area .now) (a .cells .now) (a .next) (a .sources .now) (a .rest .now) (a .count))) (sym (c .before .before .before .before .before .key-at .ensures) ∙ c .before .before .before .t .given .1))
+
+returns-2 : tie.Need-returns-2
+unfolding enteredAt
+returns-2 c =
+    let a = c .before .before .before .before .before .before .args in
+    sym (ap (λ k. enteredBy k (wordAt (a .spec .now) (a .list) (a .area .now) (a .cells .now) (a .next) (a .sources .now) (a .rest .now) (a .count))) (sym (c .before .before .key-at .ensures) ∙ c .enum-told .given .1))
+
+returns-3 : tie.Need-returns-3
+unfolding enteredAt
+returns-3 c =
+    let a = c .before .before .before .before .before .before .args in
+    sym (ap (λ k. enteredBy k (wordAt (a .spec .now) (a .list) (a .area .now) (a .cells .now) (a .next) (a .sources .now) (a .rest .now) (a .count))) (sym (c .before .before .key-at .ensures) ∙ c .enum-told2 .given .1))
+
+pub entry-at-spec : {M : Type 1} → statement M
+entry-at-spec =
+    tie.close
+    (tie.spec
+    key-at-requires
+    enum-known-t
+    payload-requires
+    word-at-requires
+    enum-told
+    enum-told-2
+    returns
+    returns-2
+    returns-3)

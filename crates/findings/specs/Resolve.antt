@@ -1,0 +1,66 @@
+-- What resolving a name finds and keeps.
+use mathlib.Core.Path.{_≡_}
+use mathlib.Core.Bool.{true}
+use mathlib.Core.List.{List, []}
+use Prim.Native.Nat.{ℕ, _+_, _*_, _<_, _≤_}
+use lib.ListN.{set}
+use Rattle.rules.specs.Listing.{all}
+use Rattle.rules.specs.Text.{differ}
+use Rattle.rules.specs.CallRecord.{Named}
+use Rattle.rules.specs.Binding.{textsOf}
+use Rattle.rules.specs.Passed.{positionalFirst, namesApart, nameInside}
+use Rattle.cells.specs.Text.{partAt}
+use Rattle.cells.specs.Record.{pairAt}
+use Rattle.cells.specs.Listed.{listed}
+use Rattle.builder.specs.Params.{parametersIn}
+use Rattle.builder.specs.Build.{IsList}
+use Rattle.builder.specs.declared.spec.ParametersSpec.{ParametersSpec}
+use Rattle.lookup.specs.declared.Finding.{Finding}
+use Rattle.lookup.specs.declared.Finding.the-variants.{At, Unknown}
+use Rattle.lookup.specs.Lookup.{findIn}
+use Rattle.findings.specs.Resolved.{namedAt, NamedPair, Resolved}
+
+unfoldable pub foundAt : List ℕ → ParametersSpec → List ℕ → List ℕ → ℕ → Finding
+foundAt spec l area cells pair =
+    findIn spec (l .params .codes) (l .params .styles) (l .params .names) (l .params .len) (partAt area (pairAt cells pair .payload))
+
+-- an index that is found is below n
+abbrev pub Below : ℕ → Finding → Type 0
+Below n (At i) = i < n
+Below n Unknown = Unit
+
+abbrev pub sourcesAfter : Finding → ℕ → List ℕ → List ℕ
+sourcesAfter (At i) pair sources = set sources i (pair + 2)
+sourcesAfter Unknown pair sources = sources
+
+abbrev pub restAfter : Finding → ℕ → ℕ → List ℕ → List ℕ
+restAfter (At i) pair count rest = rest
+restAfter Unknown pair count rest = set rest count pair
+
+abbrev pub countAfter : Finding → ℕ → ℕ
+countAfter (At i) count = count
+countAfter Unknown count = count + 1
+
+-- a list of the code that binding can lean on: it is the list that its columns are, and that list is one that passes 1 to 8
+pub record Prepared (area : List ℕ) (l : ParametersSpec) : Type 0 where
+  pub is-list : IsList area l (parametersIn area (l .params))
+  pub first : positionalFirst (parametersIn area (l .params)) ≡ true
+  pub apart : namesApart [] (parametersIn area (l .params)) ≡ true
+  pub inside : all (nameInside area) (parametersIn area (l .params)) ≡ true
+
+-- the named values of `count` pairs from a cell on
+abbrev pub pairsFrom : List ℕ → List ℕ → ℕ → ℕ → List Named
+pairsFrom area cells from count = listed (λ k. namedAt area cells (from + 4 * k)) 0 count
+
+-- pairs whose names are known to be texts inside the area
+pub record Pairs (area cells : List ℕ) (from count : ℕ) : Type 0 where
+  pub few : count ≤ 64
+  pub near : from ≤ 1024
+  pub named : (k : ℕ) → k < count → NamedPair area cells (from + 4 * k)
+
+-- written pairs against a prepared list, with nothing resolved yet
+pub record Naming (spec : List ℕ) (l : ParametersSpec) (cells area : List ℕ) (from count : ℕ) (sources rest : List ℕ) : Type 0 where
+  pub list : Prepared spec l
+  pub pairs : Pairs area cells from count
+  pub apart : differ (textsOf (pairsFrom area cells from count)) ≡ true
+  pub empty : Resolved (parametersIn spec (l .params)) cells area [] sources rest 0

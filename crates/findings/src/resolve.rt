@@ -1,0 +1,80 @@
+// Each name of a call resolved once (01, collector): for each parameter the cell of the value that a name gives it, and the pairs that
+// name no parameter, in their order. 16, 19, 24 and placement work on these findings.
+// Reworked from starlark 0.14.2, src/eval/runtime/params/spec.rs (collect_slow), Apache-2.0.
+use builder::spec::ParametersSpec;
+use cells::record::pair_at;
+use cells::text::part;
+use lookup::Finding;
+use lookup::get_str;
+ghost use mathlib.Core.Path.{_≡_};
+ghost use Prim.Native.Nat.{_+_, _*_, _<_, _≤_, _^_};
+ghost use Rattle.findings.specs.Resolve.{Below, foundAt, sourcesAfter, restAfter, countAfter, pairsFrom, Naming};
+ghost use Rattle.findings.specs.Resolved.{Resolved};
+ghost use Rattle.builder.specs.Params.{parametersIn};
+
+// The pairs of N, at most 64 written and 64 entries.
+pub const NAMED: usize = 128;
+
+// The parameter that the pair at a cell names.
+pub fn found_at(
+    list: ParametersSpec,
+    spec: &[u8],
+    cells: &[u64],
+    area: &[u8],
+    pair: usize,
+) -> Finding
+    ensures { λ r. ⌜ r ≡ foundAt (now (spec .entry)) list (now (area .entry)) (now (cells .entry)) pair ⌝ }
+{
+    let key = pair_at(cells, pair);
+    get_str(list, spec, part(area, key.payload))
+}
+
+// The pair's value fills the slot that is found, or the pair joins the remainder. How many pairs the remainder then has.
+pub fn enter(
+    found: Finding,
+    pair: usize,
+    sources: &mut [usize; 64],
+    rest: &mut [usize; NAMED],
+    count: usize,
+) -> usize
+    requires { ⌜ (pair < 2 ^ 32) × (count < 128) × Below 64 found ⌝ }
+    ensures after { λ r. ⌜ r ≡ countAfter found count ⌝ }
+    ensures sources { λ r. ⌜ now (sources .exit) ≡ sourcesAfter found pair (now (sources .entry)) ⌝ }
+    ensures rest { λ r. ⌜ now (rest .exit) ≡ restAfter found pair count (now (rest .entry)) ⌝ }
+{
+    match found {
+        Finding::At(i) => {
+            sources[i] = pair + 2;
+            count
+        }
+        Finding::Unknown => {
+            rest[count] = pair;
+            count + 1
+        }
+    }
+}
+
+// The written names, of which none stands twice.
+pub fn resolve_names(
+    list: ParametersSpec,
+    spec: &[u8],
+    cells: &[u64],
+    area: &[u8],
+    from: usize,
+    n: usize,
+    sources: &mut [usize; 64],
+    rest: &mut [usize; NAMED],
+) -> usize
+    requires { ⌜ Naming (now spec) list (now cells) (now area) from n (now sources) (now rest) ⌝ }
+    ensures { λ r. ⌜ Resolved (parametersIn (now (spec .entry)) (list .params)) (now (cells .entry)) (now (area .entry)) (pairsFrom (now (area .entry)) (now (cells .entry)) from n) (now (sources .exit)) (now (rest .exit)) r ⌝ }
+{
+    let mut count = 0;
+    let mut k = 0;
+    while k < n {
+        let pair = from + 4 * k;
+        let found = found_at(list, spec, cells, area, pair);
+        count = enter(found, pair, sources, rest, count);
+        k += 1;
+    }
+    count
+}

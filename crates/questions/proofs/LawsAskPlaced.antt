@@ -1,0 +1,138 @@
+-- 20 to 24 as the code asks them are 20 to 24.
+-- Assumes nothing.
+use mathlib.Core.Path.{_≡_, refl, sym, ap, ap₂, _∙_}
+use mathlib.Core.Bool.{Bool, true, false, cond, _||_}
+use mathlib.Core.List.{List, [], _∷_, map}
+use mathlib.Core.Option.{Option, none, some}
+use Prim.Native.Nat.{ℕ, zero, suc, _+_, _-_, min, _≤_, _<_}
+use native.Mathlib.Omega.{arith}
+use borrow.Author.Tests.{lt-ltb, le-ltb}
+use lib.ListN.{length, take, getD}
+use Rattle.rules.specs.Listing.{any, firstFrom}
+use Rattle.rules.specs.Text.{textIn}
+use Rattle.rules.specs.Value.{Value, noValue, readValue}
+use Rattle.rules.specs.Answer.{Answer, fine, refuse, _then_, name, count, countAndName, specArea, callArea, partOf}
+use Rattle.rules.specs.CallRecord.{Head, Named, namedIn, readPair}
+use Rattle.rules.specs.Parameters.{Parameter, isArgs, isKwargs, positionalCount, argsIndex, kwargsIndex, hasArgs, hasKwargs}
+use Rattle.rules.specs.Placement.{place, starRemainder, namedRemainder}
+use Rattle.rules.specs.Binding.{missing, askStarRemainder, askNamedRemainder, askPlaced}
+use Rattle.cells.specs.Record.{pairAt}
+use Rattle.builder.specs.Spec.{indexOf}
+use Rattle.builder.specs.Params.{styleFor, parameterOf, parameterAt, parametersIn}
+use Rattle.builder.specs.declared.spec.ParametersSpec.{ParametersSpec}
+use Rattle.answers.specs.Answer.{placeOf, answerIn}
+use Rattle.findings.specs.Resolved.{namedAt, Resolved}
+use Rattle.findings.specs.Resolve.{Prepared}
+use Rattle.findings.specs.Found.{firstMissing}
+use Rattle.calls.specs.Values.{positionalAt}
+use Rattle.questions.specs.Judge.{lostTo, missingAs, missingOr, remaindersAs, placedAs, judgedAnswer}
+use Rattle.questions.specs.declared.judge.Judged.{Judged}
+use Rattle.questions.specs.declared.judge.Judged.the-variants.{Fine, Refused}
+use Rattle.answers.specs.declared.answer.Collected.the-variants.{ExtraPositionalArg, ExtraNamedArg}
+use Rattle.findings.proofs.LawsAsked.{isSome, missingAt}
+use Rattle.slots.proofs.LawsPlaced.{parameter, required-found}
+use Rattle.slots.proofs.LawsWritten.{star-length, remainder-length}
+
+-- ---- a parameter that takes what is left over
+
+any-found : {X : Type 0} (test : X → Bool) (i : ℕ) (xs : List X) → any test xs ≡ isSome (firstFrom test i xs)
+any-found test i [] = refl
+any-found test i (x ∷ xs) = go (test x) (any-found test (suc i) xs)
+  where
+    go : (b : Bool) → any test xs ≡ isSome (firstFrom test (suc i) xs) → (b || any test xs) ≡ isSome (cond b (some i) (firstFrom test (suc i) xs))
+    go true e = refl
+    go false e = e
+
+pub args-found : (qs : List Parameter) → hasArgs qs ≡ isSome (argsIndex qs)
+unfolding hasArgs argsIndex
+args-found qs = any-found (λ q. isArgs (q .kind)) 0 qs
+
+pub kwargs-found : (qs : List Parameter) → hasKwargs qs ≡ isSome (kwargsIndex qs)
+unfolding hasKwargs kwargsIndex
+kwargs-found qs = any-found (λ q. isKwargs (q .kind)) 0 qs
+
+-- ---- 23 and 24
+
+star-asked : (o : Option ℕ) (vs : List Value) (total room : ℕ) → length vs ≡ total - room → askStarRemainder (isSome o) vs ≡ cond (lostTo total room o) (refuse 23 (count (total - room))) fine
+star-asked (some k) vs total room e = refl
+star-asked none [] total room e = ap (λ b. cond b (refuse 23 (count (total - room))) fine) (sym (le-ltb room total (omega arith)))
+star-asked none (v ∷ vs) total room e = ap (λ n. refuse 23 (count n)) e ∙ ap (λ b. cond b (refuse 23 (count (total - room))) fine) (sym (lt-ltb room total (omega arith)))
+
+named-asked : (o : Option ℕ) (vs : List Named) (n payload : ℕ) → length vs ≡ n → ((v : Named) (ws : List Named) → vs ≡ v ∷ ws → v .name .payload ≡ payload)
+    → askNamedRemainder (isSome o) vs ≡ cond (lostTo n 0 o) (refuse 24 (countAndName n (placeOf callArea payload))) fine
+unfolding partOf
+named-asked (some k) vs n payload e f = refl
+named-asked none [] n payload e f = ap (λ b. cond b (refuse 24 (countAndName n (placeOf callArea payload))) fine) (sym (le-ltb 0 n (omega arith)))
+named-asked none (v ∷ vs) n payload e f =
+    ap₂ (λ m p. refuse 24 (countAndName m (placeOf callArea p))) e (f v vs refl) ∙ ap (λ b. cond b (refuse 24 (countAndName n (placeOf callArea payload))) fine) (sym (lt-ltb 0 n (omega arith)))
+
+-- ---- 20 to 22
+
+missing-style : (style payload : ℕ) → answerIn (missingAs style payload) ≡ refuse (missing (styleFor style)) (name (placeOf specArea payload))
+missing-style zero payload = refl
+missing-style (suc zero) payload = refl
+missing-style (suc (suc zero)) payload = refl
+missing-style (suc (suc (suc n))) payload = refl
+
+missing-asked : (spec : List ℕ) (l : ParametersSpec) (list : Prepared spec l) (o : Option ℕ) (rest : Judged) (after : Answer) → judgedAnswer rest ≡ after
+    → judgedAnswer (missingOr o (λ i. missingAs (getD (l .params .styles) i 0) (getD (l .params .names) i 0)) rest) ≡ (missingAt (parameter spec l list) o then after)
+unfolding parameterAt parameterOf partOf textIn
+missing-asked spec l list none rest after e = e
+missing-asked spec l list (some i) rest after e = missing-style (getD (l .params .styles) i 0) (getD (l .params .names) i 0)
+
+-- ---- the first name of the remainder
+
+firstPayload : List Named → ℕ
+firstPayload [] = 0
+firstPayload (v ∷ vs) = v .name .payload
+
+first-of : (area cells : List ℕ) (n : ℕ) (ys : List ℕ) (v : Named) (ws : List Named) → v ∷ ws ≡ map (namedAt area cells) (take n ys) → v .name .payload ≡ pairAt cells (getD ys 0 0) .payload
+unfolding firstPayload namedAt namedIn textIn readPair readValue pairAt
+first-of area cells zero ys v ws e = let z : suc (length ws) ≡ 0 = ap length e in absurd (omega arith)
+first-of area cells (suc n) [] v ws e = let z : suc (length ws) ≡ 0 = ap length e in absurd (omega arith)
+first-of area cells (suc n) (y ∷ ys) v ws e = ap firstPayload e
+
+-- ---- 23 before 24
+
+in-turn : (a b : Bool) (surplus kept payload : ℕ)
+    → judgedAnswer (cond a (Refused (ExtraPositionalArg surplus)) (cond b (Refused (ExtraNamedArg kept payload)) (Fine kept)))
+    ≡ (cond a (refuse 23 (count surplus)) fine then cond b (refuse 24 (countAndName kept (placeOf callArea payload))) fine)
+in-turn true b surplus kept payload = refl
+in-turn false true surplus kept payload = refl
+in-turn false false surplus kept payload = refl
+
+module _ (spec : List ℕ) (l : ParametersSpec) (list : Prepared spec l) (cells area : List ℕ) (P : List Value) (N : List Named) (sources rest : List ℕ) (kept next : ℕ)
+    (upto : next ≡ min (length P) (positionalCount (parametersIn spec (l .params)))) (r : Resolved (parametersIn spec (l .params)) cells area N sources rest kept) (few : kept ≤ 128) (h : Head)
+    (values : (k : ℕ) → k < length P → getD P k noValue ≡ positionalAt cells h k) (long : length P ≡ h .p + h .s) where
+  abbrev qs : List Parameter
+  qs = parametersIn spec (l .params)
+
+  first-name : (v : Named) (ws : List Named) → namedRemainder qs N ≡ v ∷ ws → v .name .payload ≡ pairAt cells (getD rest 0 0) .payload
+  first-name v ws e = first-of area cells kept rest v ws (sym e ∙ r .rest-is)
+
+  pub remainders-asked : judgedAnswer (remaindersAs l cells h rest kept) ≡ (askStarRemainder (hasArgs qs) (starRemainder qs P) then askNamedRemainder (hasKwargs qs) (namedRemainder qs N))
+  unfolding remaindersAs
+  remainders-asked =
+      in-turn (lostTo (h .p + h .s) (l .indices .«num_positional») (indexOf (l .indices .args))) (lostTo kept 0 (indexOf (l .indices .kwargs))) (h .p + h .s - l .indices .«num_positional») kept (pairAt cells (getD rest 0 0) .payload)
+      ∙ sym (ap₂ (λ a b. a then b) surplus left)
+    where
+      surplus
+          : askStarRemainder (hasArgs qs) (starRemainder qs P)
+          ≡ cond (lostTo (h .p + h .s) (l .indices .«num_positional») (indexOf (l .indices .args))) (refuse 23 (count (h .p + h .s - l .indices .«num_positional»))) fine
+      surplus =
+          ap (λ b. askStarRemainder b (starRemainder qs P)) (args-found qs ∙ ap isSome (sym (list .is-list .args)))
+          ∙ star-asked (indexOf (l .indices .args)) (starRemainder qs P) (h .p + h .s) (l .indices .«num_positional») (star-length spec l list cells area P N sources rest kept next upto r few h values long)
+
+      left
+          : askNamedRemainder (hasKwargs qs) (namedRemainder qs N)
+          ≡ cond (lostTo kept 0 (indexOf (l .indices .kwargs))) (refuse 24 (countAndName kept (placeOf callArea (pairAt cells (getD rest 0 0) .payload)))) fine
+      left =
+          ap (λ b. askNamedRemainder b (namedRemainder qs N)) (kwargs-found qs ∙ ap isSome (sym (list .is-list .kwargs)))
+          ∙ named-asked (indexOf (l .indices .kwargs)) (namedRemainder qs N) kept (pairAt cells (getD rest 0 0) .payload) (remainder-length qs cells area N sources rest kept r few) first-name
+
+  pub placed-asked : judgedAnswer (placedAs l cells h next sources rest kept) ≡ askPlaced qs P N
+  unfolding placedAs askPlaced place
+  placed-asked =
+      missing-asked spec l list (firstMissing (l .params .codes) sources next (l .params .len - next)) (remaindersAs l cells h rest kept) (askStarRemainder (hasArgs qs) (starRemainder qs P) then askNamedRemainder (hasKwargs qs) (namedRemainder qs N)) remainders-asked
+      ∙ ap (λ a. a then askStarRemainder (hasArgs qs) (starRemainder qs P) then askNamedRemainder (hasKwargs qs) (namedRemainder qs N))
+      (sym (required-found spec l list cells area P N sources rest kept next upto r h values (length (starRemainder qs P)) (length (namedRemainder qs N))))

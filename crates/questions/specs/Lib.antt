@@ -1,0 +1,3 @@
+-- What the questions of binding answer.
+pub mod Judge
+pub mod Questions

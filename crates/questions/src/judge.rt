@@ -1,0 +1,105 @@
+// Questions 15 to 24 (01, binding), asked in order before anything is written.
+// Reworked from starlark 0.14.2, src/eval/runtime/params/spec.rs (collect_slow), Apache-2.0.
+//
+//     def f(a, /, b, *args, k, **kwargs)
+//
+// 15 the star can be iterated; 16 no slot is filled by position and by a written name; 17 the double star is a dictionary; 18 and 19
+// entry by entry: a text, and free; 20 to 22 no required slot is empty; 23 and 24 what is left over has *args and **kwargs to go to.
+use answers::answer::Collected;
+use findings::found::first_missing;
+use findings::resolve::NAMED;
+use builder::spec::Index;
+use builder::spec::ParametersSpec;
+use calls::head::Head;
+use cells::record::pair_at;
+ghost use mathlib.Core.Path.{_≡_};
+ghost use Rattle.calls.specs.Head.{headOf};
+ghost use Rattle.questions.specs.Judge.{lostTo, missingAs, remaindersAs, placedAs, PlacedReady};
+ghost use Prim.Native.Nat.{_<_};
+ghost use lib.ListN.{getD};
+ghost use Rattle.builder.specs.Spec.{indexOf};
+
+// Nothing against the call, and how many pairs the named remainder has; or the refusal.
+pub enum Judged {
+    Fine(usize),
+    Refused(Collected),
+}
+
+// The refusal for a required parameter that is given nothing, by how it could have been given.
+pub fn missing(style: u64, name: u64) -> Collected
+    ensures { λ r. ⌜ r ≡ missingAs style name ⌝ }
+{
+    match style {
+        0 => Collected::MissingPositionalOnly(name),
+        1 => Collected::Missing(name),
+        _ => Collected::MissingNamedOnly(name),
+    }
+}
+
+// Is there more than `room`, and no parameter to take what is left over?
+fn lost(count: usize, room: usize, taker: Index) -> bool
+    ensures { λ r. ⌜ r ≡ lostTo count room (indexOf taker) ⌝ }
+{
+    if count <= room {
+        return false;
+    }
+    match taker {
+        Index::At(_) => false,
+        Index::Absent => true,
+    }
+}
+
+// 20 to 24, of names that are resolved.
+pub fn ask_placed(
+    list: ParametersSpec,
+    cells: &[u64],
+    h: Head,
+    next: usize,
+    sources: &[usize; 64],
+    rest: &[usize; NAMED],
+    count: usize,
+) -> Judged
+    requires { ⌜ PlacedReady list (headOf h) ⌝ }
+    ensures { λ r. ⌜ r ≡ placedAs list (now (cells .entry)) (headOf h) next (now (sources .entry)) (now (rest .entry)) count ⌝ }
+{
+    let params = list.params;
+    match first_missing(&params.codes, sources, next, params.len) {
+        Index::At(i) => Judged::Refused(missing_at(list, i)),
+        Index::Absent => ask_remainders(list, cells, h, rest, count),
+    }
+}
+
+// The refusal for the parameter at an index.
+fn missing_at(list: ParametersSpec, i: usize) -> Collected
+    requires { ⌜ i < 64 ⌝ }
+    ensures { λ r. ⌜ r ≡ missingAs (getD (list .params .styles) i 0) (getD (list .params .names) i 0) ⌝ }
+{
+    let params = list.params;
+    missing(params.styles[i], params.names[i])
+}
+
+// 23 and 24.
+fn ask_remainders(
+    list: ParametersSpec,
+    cells: &[u64],
+    h: Head,
+    rest: &[usize; NAMED],
+    count: usize,
+) -> Judged
+    requires { ⌜ PlacedReady list (headOf h) ⌝ }
+    ensures { λ r. ⌜ r ≡ remaindersAs list (now (cells .entry)) (headOf h) (now (rest .entry)) count ⌝ }
+{
+    let indices = list.indices;
+    let positional = indices.num_positional;
+    let args = indices.args;
+    let kwargs = indices.kwargs;
+    let total = h.p + h.s;
+    if lost(total, positional, args) {
+        return Judged::Refused(Collected::ExtraPositionalArg(total - positional));
+    }
+    if lost(count, 0, kwargs) {
+        let key = pair_at(cells, rest[0]);
+        return Judged::Refused(Collected::ExtraNamedArg(count, key.payload));
+    }
+    Judged::Fine(count)
+}

@@ -1,0 +1,73 @@
+use Rattle.calls.specs.Head.{headOf}
+use Rattle.slots.proofs.LawsWritten.{board-written}
+use borrow.Author.Needs.{needs}
+use Rattle.slots.proofs.board.write_board.Statement.{statement}
+use Rattle.slots.proofs.board.write_board.Tie as tie
+
+-- src/board.rt:40:26
+add-left-over : tie.Need-add-left-over
+add-left-over c = search needs
+
+-- src/board.rt:40:9
+left-over-requires : tie.Need-left-over-requires
+left-over-requires c κs = search needs
+
+-- src/board.rt:46:9
+write-slots-requires : tie.Need-write-slots-requires
+write-slots-requires c κs = search needs
+
+-- src/board.rt:47:46
+mul-write-values : tie.Need-mul-write-values
+mul-write-values c = search needs
+
+-- src/board.rt:47:5
+write-values-requires : tie.Need-write-values-requires
+write-values-requires c κs = search needs
+
+-- src/board.rt:48:37
+mul-write-named : tie.Need-mul-write-named
+mul-write-named c = search needs
+
+-- src/board.rt:48:51
+mul-write-named-2 : tie.Need-mul-write-named-2
+mul-write-named-2 c = search needs
+
+-- src/board.rt:48:37
+add-write-named : tie.Need-add-write-named
+add-write-named c = search needs
+
+-- src/board.rt:48:5
+write-named-requires : tie.Need-write-named-requires
+write-named-requires c κs = search needs
+
+-- src/board.rt:26:1
+same-length : tie.Need-same-length
+same-length c = search needs
+
+-- src/board.rt:26:1
+returns : tie.Need-returns
+returns c =
+    let named = c .before .before in
+    let values = named .before .before .before .before in
+    let slots = values .before .before .before .before in
+    let left = slots .before .before .before .before .before .before .before .before .before in
+    let start = left .before .before .before .before in
+    let a = start .args in
+    board-written (a .list) (a .cells .now) (headOf (a .h)) (a .next) (a .sources .now) (a .rest .now) (a .count) (left .left-over .result) (a .board .now) (start .pre) (left .left-over .ensures)
+    _ _ _ (slots .write-slots .result) (slots .write-slots .ensures) (values .write-values .ensures) (named .write-named .ensures)
+
+pub write-board-spec : {M : Type 1} → statement M
+write-board-spec =
+    tie.close
+    (tie.spec
+    add-left-over
+    left-over-requires
+    write-slots-requires
+    mul-write-values
+    write-values-requires
+    mul-write-named
+    mul-write-named-2
+    add-write-named
+    write-named-requires
+    same-length
+    returns)

@@ -1,0 +1,106 @@
+use mathlib.Core.Path.{_≡_, refl, ap, subst, _∙_}
+use Prim.Native.Nat.{_-_, _≤_}
+use native.Mathlib.Omega.{arith}
+use lib.ListN.{length}
+use mathlib.Core.Bool.{cond}
+use Rattle.rules.specs.Placement.{isTaken, isDefaulted}
+use Rattle.calls.specs.Head.{headOf}
+use Rattle.slots.specs.Slots.{slotIn, slotAt, slotsOf, Filling}
+use Rattle.slots.proofs.LawsFilled.{at-most-one, slot-taken, slot-defaulted, filling-none, filling-more}
+use borrow.Author.Needs.{needs}
+use Rattle.slots.proofs.slots.write_slots.Statement.{statement}
+use Rattle.slots.proofs.slots.write_slots.Tie as tie
+
+abbrev Inv-loop : tie.InvT-loop
+Inv-loop codes kinds payloads sources cells h next len star named board₀ taken₀ defaulted₀ k₀ board taken defaulted k =
+    (k ≤ len)
+    × (taken ≤ k)
+    × (defaulted ≤ k)
+    × (length board ≡ length board₀)
+    × Filling (slotsOf codes kinds payloads sources cells (headOf h) next star named k) board₀ board (record { taken = taken; defaulted = defaulted })
+
+abbrev μ-loop : tie.MeasureT-loop
+μ-loop codes kinds payloads sources cells h next len star named board₀ taken₀ defaulted₀ k₀ board taken defaulted k = len - k
+
+loop-holds : tie.Need-loop-holds Inv-loop μ-loop
+loop-holds c = (search needs, search needs, search needs, refl, filling-none (c .before .before .args .board .now))
+
+slot-at-requires : tie.Need-slot-at-requires Inv-loop μ-loop
+slot-at-requires c κs = search needs
+
+taken-requires : tie.Need-taken-requires Inv-loop μ-loop
+taken-requires c κs = search needs
+
+add-taken : tie.Need-add-taken Inv-loop μ-loop
+add-taken c = omega (arith, c .taken .ensures, at-most-one (isTaken (slotIn (c .before .slot-at .result) 0 0)))
+
+defaulted-requires : tie.Need-defaulted-requires Inv-loop μ-loop
+defaulted-requires c κs = search needs
+
+add-defaulted : tie.Need-add-defaulted Inv-loop μ-loop
+add-defaulted c = omega (arith, c .defaulted .ensures, at-most-one (isDefaulted (slotIn (c .before .before .slot-at .result) 0 0)))
+
+mul-put : tie.Need-mul-put Inv-loop μ-loop
+mul-put c = search needs
+
+pair-requires : tie.Need-pair-requires Inv-loop μ-loop
+pair-requires c κs = search needs
+
+put-requires : tie.Need-put-requires Inv-loop μ-loop
+put-requires c κs = search needs
+
+add-k : tie.Need-add-k Inv-loop μ-loop
+add-k c = search needs
+
+loop-less : tie.Need-loop-less Inv-loop μ-loop
+loop-less c = omega arith
+
+loop-again : tie.Need-loop-again Inv-loop μ-loop
+loop-again c =
+    let start = c .before .before .before .before .before .before .before .before .before .before .before .before in
+    let a = start .args in
+    let at = c .before .before .before .before .before .before .before .before .before .loop in
+    let slot = c .before .before .before .before .before .before .before .slot-at .result in
+    let is : slotIn slot (a .star) (a .named) ≡ slotAt (a .codes .now) (a .kinds .now) (a .payloads .now) (a .sources .now) (a .cells .now) (headOf (a .h)) (a .next) (at .k) (a .star) (a .named) =
+    ap (λ g. g (a .star) (a .named)) (c .before .before .before .before .before .before .before .slot-at .ensures) in
+    let t = c .before .before .before .before .before .before .taken .ensures ∙ ap (λ b. cond b 1 0) (slot-taken slot (a .star) (a .named) ∙ ap isTaken is) in
+    let d = c .before .before .before .before .before .defaulted .ensures ∙ ap (λ b. cond b 1 0) (slot-defaulted slot (a .star) (a .named) ∙ ap isDefaulted is) in (
+      search needs,
+      omega (arith, c .before .before .before .before .before .before .taken .ensures, at-most-one (isTaken (slotIn slot 0 0))),
+      omega (arith, c .before .before .before .before .before .defaulted .ensures, at-most-one (isDefaulted (slotIn slot 0 0))),
+      c .before .before .put .kept .0 ∙ at .inv .3,
+      rw (c .before .before .put .ensures, c .before .before .before .pair .ensures, is)
+          (filling-more (λ k. slotAt (a .codes .now) (a .kinds .now) (a .payloads .now) (a .sources .now) (a .cells .now) (headOf (a .h)) (a .next) k (a .star) (a .named)) (at .k) (a .board .now) (at .board) (at .taken) (at .defaulted)
+          (c .before .before .before .before .before .before .taken .result) (c .before .before .before .before .before .defaulted .result) (at .inv .4) (omega (arith, start .pre .0, start .pre .1)) t d),
+    )
+
+same-length : tie.Need-same-length Inv-loop μ-loop
+same-length c = c .before .loop .inv .3
+
+returns : tie.Need-returns Inv-loop μ-loop
+returns c =
+    let a = c .before .before .before .before .args in
+    let at = c .before .loop in
+    let whole : at .k ≡ a .len = omega arith in
+    subst (λ n. Filling (slotsOf (a .codes .now) (a .kinds .now) (a .payloads .now) (a .sources .now) (a .cells .now) (headOf (a .h)) (a .next) (a .star) (a .named) n) (a .board .now) (at .board) (record { taken = at .taken; defaulted = at .defaulted })) whole (at .inv .4)
+
+pub write-slots-spec : {M : Type 1} → statement M
+write-slots-spec =
+    tie.close
+    (tie.spec
+    Inv-loop
+    μ-loop
+    loop-holds
+    slot-at-requires
+    taken-requires
+    add-taken
+    defaulted-requires
+    add-defaulted
+    mul-put
+    pair-requires
+    put-requires
+    add-k
+    loop-less
+    loop-again
+    same-length
+    returns)

@@ -1,0 +1,57 @@
+-- The pairs of the named remainder as they are written, and the board of an accepted call by the list's columns and the sources of names.
+use mathlib.Core.Path.{_≡_}
+use mathlib.Core.List.{List, _++_}
+use Prim.Native.Nat.{ℕ, _+_, _-_, _≤_, _<_}
+use lib.ListN.{length, getD}
+use Rattle.rules.specs.Listing.{tally}
+use Rattle.rules.specs.Cells.{writeEach}
+use Rattle.rules.specs.Value.{Value, callText, valueCells}
+use Rattle.rules.specs.CallRecord.{Head}
+use Rattle.rules.specs.Placement as rules
+use Rattle.rules.specs.Board.{slotCells, namedCells}
+use Rattle.cells.specs.Record.{pairAt}
+use Rattle.cells.specs.Out.{stored}
+use Rattle.cells.specs.Listed.{listed}
+use Rattle.builder.specs.declared.spec.ParametersSpec.{ParametersSpec}
+use Rattle.calls.specs.Head.{Few}
+use Rattle.calls.specs.Places.{positionAt}
+use Rattle.findings.specs.Entries.{heldNames}
+use Rattle.slots.specs.Slots.{slotsOf}
+use Rattle.answers.specs.declared.answer.Counts.{Counts}
+
+-- the pairs of the named remainder stand near, under names that are texts
+pub record RestHeld (cells rest : List ℕ) (count : ℕ) : Type 0 where
+  pub few : count ≤ 128
+  pub pairs : length rest ≡ 128
+  pub near : (j : ℕ) → j < count → getD rest j 0 ≤ 2048
+  pub text : (j : ℕ) → j < count → pairAt cells (getD rest j 0) .kind ≡ callText
+
+-- how many values of P find no positional parameter
+abbrev pub starLeft : ParametersSpec → Head → ℕ
+starLeft l h = h .p + h .s - l .indices .«num_positional»
+
+-- the slots of a list, where the named remainder has `count` elements
+abbrev pub slotsIn : ParametersSpec → List ℕ → Head → ℕ → List ℕ → ℕ → List rules.Slot
+slotsIn l cells h next sources count =
+    slotsOf (l .params .codes) (l .params .«default_kinds») (l .params .«default_payloads») sources cells h next (starLeft l h) count (l .params .len)
+
+-- the cells that are written
+abbrev pub writtenIn : ParametersSpec → List ℕ → List ℕ → Head → ℕ → List ℕ → List ℕ → ℕ → List ℕ
+writtenIn l area cells h next sources rest count =
+    writeEach slotCells (slotsIn l cells h next sources count)
+    ++ (writeEach valueCells (valuesIn cells h (l .indices .«num_positional») (starLeft l h)) ++ writeEach namedCells (heldNames area cells rest count))
+
+-- a list and a call within the limits, and a board that has room for them
+pub record BoardReady (l : ParametersSpec) (cells : List ℕ) (h : Head) (rest : List ℕ) (count : ℕ) (board : List ℕ) : Type 0 where
+  pub room : l .params .len ≤ 64
+  pub positional : l .indices .«num_positional» ≤ 64
+  pub few : Few 64 h
+  pub held : RestHeld cells rest count
+  pub long : 896 ≤ length board
+
+pub record BoardWritten (l : ParametersSpec) (cells : List ℕ) (h : Head) (next : ℕ) (sources rest : List ℕ) (count : ℕ) (before after : List ℕ) (r : Counts) : Type 0 where
+  pub board : (area : List ℕ) → after ≡ stored before 0 (writtenIn l area cells h next sources rest count)
+  pub taken : r .taken ≡ tally rules.isTaken (slotsIn l cells h next sources count)
+  pub defaulted : r .defaulted ≡ tally rules.isDefaulted (slotsIn l cells h next sources count)
+  pub star : r .star ≡ starLeft l h
+  pub named : r .named ≡ count
