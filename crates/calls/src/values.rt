@@ -14,14 +14,7 @@ ghost use Rattle.calls.specs.Head.{headOf};
 ghost use Rattle.calls.specs.Values.{valuesIn};
 
 // `count` values of P from number `from` on, stored from cell `at` on.
-pub fn write_values(
-    cells: &[u64],
-    h: Head,
-    from: usize,
-    count: usize,
-    at: usize,
-    board: &mut [u64],
-)
+pub fn write_values(cells: &[u64], h: Head, from: usize, count: usize, at: usize, board: &mut [u64])
     requires { ⌜ (from ≤ 128) × (at + 2 * count ≤ length (now board)) ⌝ }
     ensures { λ r. ⌜ now (board .exit) ≡ stored (now (board .entry)) at (writeEach valueCells (valuesIn (now (cells .entry)) (headOf h) from count)) ⌝ }
 {

@@ -1,26 +1,26 @@
 // One cut of a family, played by `cuts::play`: it is given P and N as the cut's record has them, and writes that record itself, so it must
 // end as the record does; and can-fill of P and N written out whole must foretell it.
-use crate::compare::Place;
-use crate::compare::same;
-use crate::compare::same_board;
-use crate::compare::same_name;
 use crate::ending::bit;
 use crate::ending::ending_of;
 use crate::ending::same_ending;
-use crate::numbers::counted;
-use crate::numbers::from_to;
 use crate::play::BOARD;
-use crate::play::fill_board;
+use answers::answer::Collected;
+use answers::detail::name_of;
 use calls::head::HEAD;
 use calls::head::PAIR;
 use calls::head::VALUE;
 use cells::record::cell;
-use answers::answer::Collected;
 use collector::can_fill::CanFill;
-use answers::detail::name_of;
 use cuts::Played;
 use cuts::play;
 use cuts::record::Cut;
+use replay::compare::Place;
+use replay::compare::fill_board;
+use replay::compare::same;
+use replay::compare::same_board;
+use replay::compare::same_name;
+use replay::numbers::counted;
+use replay::numbers::from_to;
 use std::num::wrapping_add_usize;
 ghost use Prim.Native.Nat.{_≤_};
 

@@ -1,9 +1,9 @@
 // What collection and can-fill answer, against the numbers that the input has for it.
-use crate::compare::Place;
-use crate::compare::same;
-use crate::numbers::take;
 use answers::answer::Collected;
 use collector::can_fill::CanFill;
+use replay::compare::Place;
+use replay::compare::same;
+use replay::numbers::take;
 
 // The area of a name, as the input has it.
 const SPEC: u64 = 1;

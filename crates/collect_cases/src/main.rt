@@ -1,17 +1,15 @@
 // Fixed cases for collection and can-fill, played on the compiled code and compared with what they have to end in: answer, detail, the
 // name's bytes, and every cell of the board. The crate's standard input has the cases, and its head says how it is laid out and where
 // they come from. A line names each difference; the last lines count the cases.
-mod compare;
 mod cut;
 mod ending;
-mod numbers;
 mod play;
 
-use compare::Place;
-use numbers::read_numbers;
-use numbers::take;
 use play::Played;
 use play::play;
+use replay::compare::Place;
+use replay::numbers::read_numbers;
+use replay::numbers::take;
 ghost use mathlib.Core.Path.{_≡_};
 ghost use lib.ListN.{length};
 

@@ -1,20 +1,20 @@
 // One case: its records and areas, what can-fill says of the call, and what collection makes of the call or of each of its cuts.
-use crate::compare::Place;
-use crate::compare::filled;
-use crate::compare::same_board;
-use crate::compare::same_name;
 use crate::cut::same_cut;
 use crate::ending::ending_of;
 use crate::ending::same_ending;
 use crate::ending::same_filling;
-use crate::numbers::area;
-use crate::numbers::counted;
-use crate::numbers::first;
-use crate::numbers::take;
 use answers::answer::Collected;
+use answers::detail::name_of;
 use collector::can_fill::can_fill_with_args;
 use collector::collect::collect;
-use answers::detail::name_of;
+use replay::compare::Place;
+use replay::compare::fill_board;
+use replay::compare::same_board;
+use replay::compare::same_name;
+use replay::numbers::area;
+use replay::numbers::counted;
+use replay::numbers::first;
+use replay::numbers::take;
 
 // Room for an area whose last text starts as far on as a text can start, and for a board with cells to spare.
 const AREA: usize = 65792;
@@ -184,14 +184,6 @@ fn play_call<'a>(
     One {
         number: ending.number,
         same: told && named && kept,
-    }
-}
-
-pub fn fill_board(fill: u64, board: &mut [u64]) {
-    let mut i = 0;
-    while i < board.len() {
-        board[i] = filled(fill, i);
-        i += 1;
     }
 }
 

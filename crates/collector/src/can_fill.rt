@@ -1,7 +1,5 @@
 // Can-fill (01, collector and can-fill): whether a call fills a parameter list, by how many positionals and which names are written.
 // Reworked from starlark 0.14.2, src/eval/runtime/params/spec.rs (can_fill_with_args_impl), Apache-2.0.
-use findings::found::first_missing;
-use findings::resolve::found_at;
 use builder::build;
 use builder::spec::Index;
 use builder::spec::ParametersSpec;
@@ -11,6 +9,8 @@ use calls::head::PAIR;
 use calls::head::named_from;
 use calls::head::read_head;
 use cells::answer::Answer;
+use findings::found::first_missing;
+use findings::resolve::found_at;
 use lookup::Finding;
 ghost use mathlib.Core.Path.{_≡_};
 ghost use mathlib.Core.Bool.{true};

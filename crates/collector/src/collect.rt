@@ -1,20 +1,20 @@
 // Collection (01, collector): a call bound against a parameter list, and its values put on the board. All questions are asked before the
 // first cell is written, so a refusal leaves the board as it was.
 // Reworked from starlark 0.14.2, src/eval/runtime/params/spec.rs (collect_inline_impl, collect_slow), Apache-2.0.
+use crate::can_fill::least;
 use answers::answer::Collected;
 use answers::answer::Counts;
-use slots::board::write_board;
-use calls::values::write_values;
-use crate::can_fill::least;
-use questions::judge::Judged;
-use questions::questions::judge;
-use findings::resolve::NAMED;
 use builder::build;
 use builder::spec::ParametersSpec;
 use calls::ask_call;
 use calls::head::Head;
 use calls::head::read_head;
+use calls::values::write_values;
 use cells::answer::Answer;
+use findings::resolve::NAMED;
+use questions::judge::Judged;
+use questions::questions::judge;
+use slots::board::write_board;
 ghost use mathlib.Core.Path.{_≡_};
 ghost use mathlib.Core.List.{List};
 ghost use Prim.Native.Nat.{_≤_};

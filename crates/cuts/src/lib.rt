@@ -1,11 +1,11 @@
 // Demand 3 in code: P and N are cut into the arguments of one call, the call is collected, and can-fill is asked of P and N written out whole.
+use answers::answer::Collected;
 use builder::build;
 use calls::ask_call;
 use calls::head::HEAD;
 use calls::head::PAIR;
 use calls::head::VALUE;
 use cells::answer::Answer;
-use answers::answer::Collected;
 use collector::can_fill::CanFill;
 use collector::can_fill::can_fill_with_args;
 use collector::collect::BOARD;

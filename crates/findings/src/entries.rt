@@ -157,13 +157,7 @@ fn is_taken(
 }
 
 // Does one of the `count` pairs of the remainder have this name?
-pub fn in_rest(
-    cells: &[u64],
-    area: &[u8],
-    rest: &[usize; NAMED],
-    count: usize,
-    name: &[u8],
-) -> bool
+pub fn in_rest(cells: &[u64], area: &[u8], rest: &[usize; NAMED], count: usize, name: &[u8]) -> bool
     requires { ⌜ Held (now area) (now cells) (now rest) count ⌝ }
     ensures { λ r. ⌜ r ≡ among (now (name .entry)) (textsOf (heldNames (now (area .entry)) (now (cells .entry)) (now (rest .entry)) count)) ⌝ }
 {

@@ -6,12 +6,12 @@
 // 15 the star can be iterated; 16 no slot is filled by position and by a written name; 17 the double star is a dictionary; 18 and 19
 // entry by entry: a text, and free; 20 to 22 no required slot is empty; 23 and 24 what is left over has *args and **kwargs to go to.
 use answers::answer::Collected;
-use findings::found::first_missing;
-use findings::resolve::NAMED;
 use builder::spec::Index;
 use builder::spec::ParametersSpec;
 use calls::head::Head;
 use cells::record::pair_at;
+use findings::found::first_missing;
+use findings::resolve::NAMED;
 ghost use mathlib.Core.Path.{_≡_};
 ghost use Rattle.calls.specs.Head.{headOf};
 ghost use Rattle.questions.specs.Judge.{lostTo, missingAs, remaindersAs, placedAs, PlacedReady};

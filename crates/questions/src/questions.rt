@@ -1,18 +1,18 @@
 // Questions 15 to 24 put to a call (01, binding), against a prepared list: each name is resolved on the way, and nothing is written but
 // the two lent arrays that keep what was resolved. The order is that of judge.rt.
 // Reworked from starlark 0.14.2, src/eval/runtime/params/spec.rs (collect_slow), Apache-2.0.
-use answers::answer::Collected;
-use findings::entries::Entries;
-use findings::entries::resolve_entries;
-use findings::found::first_named;
 use crate::judge::Judged;
 use crate::judge::ask_placed;
-use findings::resolve::NAMED;
-use findings::resolve::resolve_names;
+use answers::answer::Collected;
 use builder::spec::Index;
 use builder::spec::ParametersSpec;
 use calls::head::Head;
 use calls::head::named_from;
+use findings::entries::Entries;
+use findings::entries::resolve_entries;
+use findings::found::first_named;
+use findings::resolve::NAMED;
+use findings::resolve::resolve_names;
 ghost use mathlib.Core.Path.{_≡_};
 ghost use mathlib.Core.List.{[]};
 ghost use Prim.Native.Nat.{_<_};

@@ -14,7 +14,7 @@ use Rattle.cells.specs.Out.{stored}
 use Rattle.cells.specs.Listed.{listed}
 use Rattle.builder.specs.declared.spec.ParametersSpec.{ParametersSpec}
 use Rattle.calls.specs.Head.{Few}
-use Rattle.calls.specs.Places.{positionAt}
+use Rattle.calls.specs.Values.{valuesIn}
 use Rattle.findings.specs.Entries.{heldNames}
 use Rattle.slots.specs.Slots.{slotsOf}
 use Rattle.answers.specs.declared.answer.Counts.{Counts}

@@ -1,26 +1,24 @@
 // The board of an accepted call (01, board): the slots, behind them the star remainder's values, then the named remainder's pairs.
 // Reworked from starlark 0.14.2, src/eval/runtime/params/spec.rs (collect_slow), Apache-2.0.
-use answers::answer::Counts;
-use findings::resolve::NAMED;
 use crate::slots::write_slots;
+use answers::answer::Counts;
 use builder::spec::ParametersSpec;
 use calls::head::Head;
 use calls::head::PAIR;
 use calls::head::VALUE;
-use calls::place::position_at;
+use calls::values::write_values;
 use cells::out::put;
 use cells::record::pair_at;
+use findings::resolve::NAMED;
 ghost use mathlib.Core.Path.{_≡_};
 ghost use mathlib.Core.List.{List};
 ghost use Prim.Native.Nat.{ℕ, _+_, _-_, _*_, _≤_};
 ghost use lib.ListN.{length};
 ghost use Rattle.rules.specs.Cells.{writeEach};
-ghost use Rattle.rules.specs.Value.{valueCells};
 ghost use Rattle.rules.specs.Board.{namedCells};
 ghost use Rattle.cells.specs.Out.{stored};
 ghost use Rattle.calls.specs.Head.{headOf};
 ghost use Rattle.findings.specs.Entries.{heldNames};
-ghost use Rattle.calls.specs.Values.{valuesIn};
 ghost use Rattle.slots.specs.Board.{RestHeld, BoardReady, BoardWritten};
 
 // All of it, and how much there is of each part.
@@ -78,13 +76,7 @@ fn left_over(total: usize, room: usize) -> usize
 }
 
 // The `count` pairs of the named remainder, stored from cell `at` on.
-pub fn write_named(
-    cells: &[u64],
-    rest: &[usize; NAMED],
-    count: usize,
-    at: usize,
-    board: &mut [u64],
-)
+pub fn write_named(cells: &[u64], rest: &[usize; NAMED], count: usize, at: usize, board: &mut [u64])
     requires { ⌜ RestHeld (now cells) (now rest) count × (at + 4 * count ≤ length (now board)) ⌝ }
     ensures { λ r. ⌜ ((area : List ℕ) → now (board .exit) ≡ stored (now (board .entry)) at (writeEach namedCells (heldNames area (now (cells .entry)) (now (rest .entry)) count))) ⌝ }
 {

@@ -118,6 +118,15 @@ pub fn filled(fill: u64, i: usize) -> u64 {
     wrapping_add_u64(fill, i as u64)
 }
 
+// A board before a call.
+pub fn fill_board(fill: u64, board: &mut [u64]) {
+    let mut i = 0;
+    while i < board.len() {
+        board[i] = filled(fill, i);
+        i += 1;
+    }
+}
+
 // The board after a call: the written cells, and after them what the board held. A line names the first cell that differs.
 pub fn same_board(place: Place, written: &[u64], fill: u64, board: &[u64]) -> bool {
     let i = first_cell(written, fill, board);

@@ -1,11 +1,11 @@
--- `collect_cases::numbers::first` is safe: the part that it lends lies inside the area.
+-- `replay::numbers::first` is safe: the part that it lends lies inside the area.
 -- Assumes nothing.
 use mathlib.Core.Path.{sym}
 use native.Mathlib.Omega.{arith}
 use lib.Seq.{length-take-le}
 use borrow.Author.Needs.{needs}
-use Rattle.collect_cases.proofs.numbers.first.Statement.{statement}
-use Rattle.collect_cases.proofs.numbers.first.Tie as tie
+use Rattle.replay.proofs.numbers.first.Statement.{statement}
+use Rattle.replay.proofs.numbers.first.Tie as tie
 
 slice-aggregate-result : tie.Need-slice-aggregate-result
 slice-aggregate-result c = search needs

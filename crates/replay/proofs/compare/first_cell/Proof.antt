@@ -1,10 +1,10 @@
--- `collect_cases::compare::first_cell` is safe and ends. The measure is how many cells are left.
+-- `replay::compare::first_cell` is safe and ends. The measure is how many cells are left.
 -- Assumes nothing.
 use Prim.Native.Nat.{_≤_, _-_}
 use lib.ListN.{length}
 use borrow.Author.Needs.{needs}
-use Rattle.collect_cases.proofs.compare.first_cell.Statement.{statement}
-use Rattle.collect_cases.proofs.compare.first_cell.Tie as tie
+use Rattle.replay.proofs.compare.first_cell.Statement.{statement}
+use Rattle.replay.proofs.compare.first_cell.Tie as tie
 
 abbrev Inv-loop : tie.InvT-loop
 Inv-loop written fill board i₀ i = i ≤ length board

@@ -1,11 +1,11 @@
--- `collect_cases::numbers::area` is safe and ends. The measure is how many runs are left, and none of them changes the room.
+-- `replay::numbers::area` is safe and ends. The measure is how many runs are left, and none of them changes the room.
 -- Assumes nothing.
 use mathlib.Core.Path.{_≡_}
 use Prim.Native.Nat.{_≤_, _-_}
 use lib.ListN.{length}
 use borrow.Author.Needs.{needs}
-use Rattle.collect_cases.proofs.numbers.area.Statement.{statement}
-use Rattle.collect_cases.proofs.numbers.area.Tie as tie
+use Rattle.replay.proofs.numbers.area.Statement.{statement}
+use Rattle.replay.proofs.numbers.area.Tie as tie
 
 abbrev Inv-loop : tie.InvT-loop
 Inv-loop numbers at₀ out₀ runs len₀ k₀ at out len k = (k ≤ runs) × (length out ≡ length out₀)

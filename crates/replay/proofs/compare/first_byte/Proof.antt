@@ -1,10 +1,10 @@
--- `collect_cases::compare::first_byte` is safe and ends. The measure is how many bytes are left.
+-- `replay::compare::first_byte` is safe and ends. The measure is how many bytes are left.
 -- Assumes nothing.
 use Prim.Native.Nat.{_≤_, _-_}
 use lib.ListN.{length}
 use borrow.Author.Needs.{needs}
-use Rattle.collect_cases.proofs.compare.first_byte.Statement.{statement}
-use Rattle.collect_cases.proofs.compare.first_byte.Tie as tie
+use Rattle.replay.proofs.compare.first_byte.Statement.{statement}
+use Rattle.replay.proofs.compare.first_byte.Tie as tie
 
 abbrev Inv-loop : tie.InvT-loop
 Inv-loop expected got i₀ i = i ≤ length expected

@@ -1,11 +1,11 @@
--- `collect_cases::numbers::scan_text` is safe and ends. The measure is how many bytes are left, and no step changes the room.
+-- `replay::numbers::scan_text` is safe and ends. The measure is how many bytes are left, and no step changes the room.
 -- Assumes nothing.
 use mathlib.Core.Path.{_≡_}
 use Prim.Native.Nat.{_≤_, _-_}
 use lib.ListN.{length}
 use borrow.Author.Needs.{needs}
-use Rattle.collect_cases.proofs.numbers.scan_text.Statement.{statement}
-use Rattle.collect_cases.proofs.numbers.scan_text.Tie as tie
+use Rattle.replay.proofs.numbers.scan_text.Statement.{statement}
+use Rattle.replay.proofs.numbers.scan_text.Tie as tie
 
 abbrev Inv-loop : tie.InvT-loop
 Inv-loop text out₀ scan₀ i₀ out scan i = (i ≤ length text) × (length out ≡ length out₀)

@@ -1,10 +1,10 @@
--- `collect_cases::numbers::put_times` is safe and ends. The measure is how many bytes are left to put, and no store changes the room.
+-- `replay::numbers::put_times` is safe and ends. The measure is how many bytes are left to put, and no store changes the room.
 -- Assumes nothing.
 use mathlib.Core.Path.{_≡_}
 use lib.ListN.{length}
 use borrow.Author.Needs.{needs}
-use Rattle.collect_cases.proofs.numbers.put_times.Statement.{statement}
-use Rattle.collect_cases.proofs.numbers.put_times.Tie as tie
+use Rattle.replay.proofs.numbers.put_times.Statement.{statement}
+use Rattle.replay.proofs.numbers.put_times.Tie as tie
 
 abbrev Inv-loop : tie.InvT-loop
 Inv-loop times byte from out₀ i₀ left₀ out i left = length out ≡ length out₀

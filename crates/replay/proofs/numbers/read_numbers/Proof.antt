@@ -1,10 +1,10 @@
--- `collect_cases::numbers::read_numbers` is safe and ends. The measure is how many turns are left, and none of them changes the room.
+-- `replay::numbers::read_numbers` is safe and ends. The measure is how many turns are left, and none of them changes the room.
 -- Assumes nothing.
 use mathlib.Core.Path.{_≡_}
 use lib.ListN.{length}
 use borrow.Author.Needs.{needs}
-use Rattle.collect_cases.proofs.numbers.read_numbers.Statement.{statement}
-use Rattle.collect_cases.proofs.numbers.read_numbers.Tie as tie
+use Rattle.replay.proofs.numbers.read_numbers.Statement.{statement}
+use Rattle.replay.proofs.numbers.read_numbers.Tie as tie
 
 abbrev Inv-loop : tie.InvT-loop
 Inv-loop out₀ scan₀ turns₀ out scan turns = length out ≡ length out₀

@@ -1,12 +1,12 @@
--- `collect_cases::play::fill_board` is safe and ends. The measure is how many cells are left, and a store keeps their number.
+-- `replay::play::fill_board` is safe and ends. The measure is how many cells are left, and a store keeps their number.
 -- Assumes nothing.
 use mathlib.Core.Path.{_≡_}
 use Prim.Native.Nat.{_≤_, _-_}
 use native.Mathlib.Omega.{arith}
 use lib.ListN.{length, length-set}
 use borrow.Author.Needs.{needs}
-use Rattle.collect_cases.proofs.play.fill_board.Statement.{statement}
-use Rattle.collect_cases.proofs.play.fill_board.Tie as tie
+use Rattle.replay.proofs.compare.fill_board.Statement.{statement}
+use Rattle.replay.proofs.compare.fill_board.Tie as tie
 
 abbrev Inv-loop : tie.InvT-loop
 Inv-loop fill board₀ i₀ board i = (i ≤ length board) × (length board ≡ length board₀)
