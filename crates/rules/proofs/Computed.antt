@@ -5,6 +5,7 @@ use lib.Dec.{lit≤}
 use Rattle.rules.specs.Cells.{over}
 use Rattle.rules.specs.Text.{payloadOf}
 use Rattle.rules.specs.Examples.{Twelve, collected, boardBefore, listW, listK, noParameters, stepsW, specBytes, callBytes}
+use Rattle.rules.specs.SheetExamples.{SheetExamples, exampleInput, exampleOutput, bindsTo}
 use Rattle.rules.specs.CutExamples.{CutExamples, ends, fills, listM, callBytes as cutBytes}
 
 pub twelve : Twelve
@@ -45,3 +46,7 @@ cut-examples =
       repeated-domain =
           record { list-passes = refl; values-formed = refl; pairs-formed = refl; no-name-twice = refl; few-values = lit≤ tt; few-names = lit≤ tt; room = lit≤ tt };
     }
+
+pub sheet-examples : SheetExamples
+unfolding bindsTo exampleInput exampleOutput
+sheet-examples = record { example = refl }

@@ -22,3 +22,10 @@ pub mod CutExamples
 pub mod Accessors
 pub mod Reader
 pub mod Printed
+pub mod SheetValue
+pub mod SheetLines
+pub mod SheetRows
+pub mod SheetInput
+pub mod SheetRecords
+pub mod SheetOutput
+pub mod SheetExamples
