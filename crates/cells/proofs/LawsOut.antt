@@ -1,15 +1,17 @@
 -- Cells stored one run after the other (01, board): lent cells that hold what was written
 -- so far, and after it what they held, hold one run more after a store at the end of what was written. That is what a loop that
--- writes asks for. Then what is stored at any index: nothing, a run behind a run, and a run from cell 0 on. Assumes nothing.
-use mathlib.Core.Path.{_≡_, sym, ap, _∙_}
-use mathlib.Core.List.{List, [], _++_, append-assoc, append-nil}
-use Prim.Native.Nat.{ℕ, _+_, _≤_}
+-- writes asks for. Then what is stored at any index: nothing, a run behind a run, a run from cell 0 on,
+-- one element more of a run; and bytes put behind bytes. Assumes nothing.
+use mathlib.Core.Path.{_≡_, sym, ap, subst, _∙_}
+use mathlib.Core.List.{List, [], _∷_, _++_, append-assoc, append-nil}
+use Prim.Native.Nat.{ℕ, _+_, _≤_, _<_}
+use native.Mathlib.Numerals.{add-one}
 use native.Mathlib.Omega.{arith}
-use lib.ListN.{length, take, drop, length-append, length-drop, take-append-drop}
-use lib.Seq.{length-take-le, take-append-seam, drop-append-add, drop-drop}
+use lib.ListN.{length, take, drop, getD, set, length-append, length-drop, take-append-drop}
+use lib.Seq.{length-take-le, sets-eq, take-suc, take-append-seam, drop-append-add, drop-drop}
 use borrow.Author.Tests.{le-leb}
 use Rattle.rules.specs.Cells.{over}
-use Rattle.cells.specs.Out.{stored}
+use Rattle.cells.specs.Out.{stored, Put}
 
 pub over-length : (done cells : List ℕ) → length done ≤ length cells → length (over done cells) ≡ length cells
 unfolding over
@@ -62,3 +64,62 @@ stored-stored cells xs ys at next e h =
 
 pub stored-first : (cells xs : List ℕ) → length xs ≤ length cells → stored cells 0 xs ≡ over xs cells
 stored-first cells xs h = stored-inside cells xs 0 (omega arith)
+
+-- a run that fits changes no length
+pub stored-length : (cells xs : List ℕ) (at : ℕ) → at + length xs ≤ length cells → length (stored cells at xs) ≡ length cells
+stored-length cells xs at h =
+    ap length (stored-inside cells xs at h)
+    ∙ over-length (take at cells ++ xs) cells (fits (length-append (take at cells) xs) (length-take-le at cells (omega arith)))
+  where
+    fits : length (take at cells ++ xs) ≡ length (take at cells) + length xs → length (take at cells) ≡ at → length (take at cells ++ xs) ≤ length cells
+    fits l t = omega arith
+
+-- one byte more of a text
+pub stored-more : (cells text held : List ℕ) (at k : ℕ) → held ≡ stored cells at (take k text) → length held ≡ length cells → k < length text → at + length text ≤ length cells
+    → set held (at + k) (getD text k 0) ≡ stored cells at (take (k + 1) text)
+unfolding stored
+stored-more cells text held at k e l h room =
+    let front : length (take k text) ≡ k = length-take-le k text (omega arith) in
+    set-stored
+    ∙ ap (λ z. stored z (at + k) (getD text k 0 ∷ [])) e
+    ∙ stored-stored cells (take k text) (getD text k 0 ∷ []) at (at + k) (ap (λ n. at + n) (sym front)) (omega arith)
+    ∙ ap (stored cells at) (sym (ap (λ n. take n text) (add-one k) ∙ take-suc text k 0 h))
+  where
+    set-stored : set held (at + k) (getD text k 0) ≡ stored held (at + k) (getD text k 0 ∷ [])
+    set-stored = rw (le-leb (at + k + 1) (length held) (omega arith)) (sets-eq (getD text k 0 ∷ []) held (at + k) (omega arith))
+
+-- ---- bytes behind bytes
+
+pub put-none : (bytes out : List ℕ) (at : ℕ) → bytes ≡ [] → at + length bytes ≤ length out → Put bytes at out out at
+put-none bytes out at e h =
+    let l : length bytes ≡ 0 = ap length e in
+    record { held = sym (ap (stored out at) e ∙ stored-none out at (omega arith)); ends = omega arith }
+
+pub put-same : {at next : ℕ} {out after : List ℕ} (xs ys : List ℕ) → xs ≡ ys → Put xs at out after next → Put ys at out after next
+put-same {at = at} {next = next} {out = out} {after = after} xs ys e p = subst (λ zs. Put zs at out after next) e p
+
+module _ (xs ys : List ℕ) (at : ℕ) (out : List ℕ) (room : at + length (xs ++ ys) ≤ length out) where
+  both : at + length xs + length ys ≤ length out
+  both = omega (arith, room, length-append xs ys)
+
+  pub put-front : at + length xs ≤ length out
+  put-front = omega (arith, both)
+
+  pub put-rest : (held : List ℕ) (next : ℕ) → Put xs at out held next → next + length ys ≤ length held
+  put-rest held next p =
+      let n : next ≡ at + length xs = p .ends in
+      let l : length held ≡ length out = ap length (p .held) ∙ stored-length out xs at put-front in
+      omega (arith, both)
+
+  pub put-then : (held after : List ℕ) (next end : ℕ) → Put xs at out held next → Put ys next held after end → Put (xs ++ ys) at out after end
+  put-then held after next end p q =
+      record {
+        held = q .held ∙ ap (λ h. stored h next ys) (p .held) ∙ stored-stored out xs ys at next (p .ends) fits;
+        ends =
+            let n : next ≡ at + length xs = p .ends in
+            let e : end ≡ next + length ys = q .ends in
+            omega (arith, length-append xs ys);
+      }
+    where
+      fits : next + length ys ≤ length out
+      fits = let n : next ≡ at + length xs = p .ends in omega (arith, both)
