@@ -11,4 +11,5 @@ pub mod LawsCanFill
 pub mod LawsCut
 pub mod LawsFound
 pub mod LawsShort
+pub mod LawsReader
 pub mod Demand3
