@@ -1,7 +1,7 @@
 // What was expected against what was got, and a line for each difference.
 use std::num::wrapping_add_u64;
 
-// A case: its section, from 0, its number there, and its cut, each from 1; cut 0 is the case itself.
+// A case: its section, its number there, from 1, and which cut or read of it, from 1; 0 is the case itself.
 pub struct Place {
     pub section: u64,
     pub case: u64,
@@ -20,7 +20,7 @@ pub fn same(place: Place, what: &[u8], expected: u64, got: u64) -> bool {
 }
 
 // The like for the element at an index.
-fn same_at(place: Place, what: &[u8], i: usize, expected: u64, got: u64) -> bool {
+pub fn same_at(place: Place, what: &[u8], i: usize, expected: u64, got: u64) -> bool {
     if expected == got {
         return true;
     }
@@ -36,12 +36,25 @@ fn say_place(place: Place) {
     say_section(place.section);
     io::print_decimal(1, place.case);
     if 0 < place.cut {
-        io::write_all(1, b", cut ");
+        say_part(place.section);
         io::print_decimal(1, place.cut);
     }
     io::write_all(1, b": ");
 }
 
+// A walk has reads, a family has cuts.
+fn say_part(section: u64) {
+    match section {
+        6 => {
+            io::write_all(1, b", read ");
+        }
+        _ => {
+            io::write_all(1, b", cut ");
+        }
+    }
+}
+
+// The sections of all the inputs.
 fn say_section(n: u64) {
     match n {
         0 => {
@@ -53,8 +66,20 @@ fn say_section(n: u64) {
         2 => {
             io::write_all(1, b"record ");
         }
-        _ => {
+        3 => {
             io::write_all(1, b"family ");
+        }
+        4 => {
+            io::write_all(1, b"call ");
+        }
+        5 => {
+            io::write_all(1, b"list ");
+        }
+        6 => {
+            io::write_all(1, b"walk ");
+        }
+        _ => {
+            io::write_all(1, b"board ");
         }
     }
 }
@@ -159,4 +184,47 @@ fn expected_cell(written: &[u64], fill: u64, i: usize) -> u64 {
         return written[i];
     }
     filled(fill, i)
+}
+
+// Bytes before a call: each of them is the same.
+pub fn fill_bytes(fill: u8, out: &mut [u8]) {
+    let mut i = 0;
+    while i < out.len() {
+        out[i] = fill;
+        i += 1;
+    }
+}
+
+// Bytes after a call: those written, and after them what was there. A line names the first that differs.
+pub fn same_bytes(place: Place, written: &[u64], fill: u8, out: &[u8]) -> bool {
+    let i = first_other(written, fill, out);
+    if i < out.len() {
+        return same_at(
+            place,
+            b"output byte",
+            i,
+            expected_byte(written, fill, i),
+            wide(out[i]),
+        );
+    }
+    true
+}
+
+// The first index at which some bytes differ from what is expected, or how many they are.
+fn first_other(written: &[u64], fill: u8, out: &[u8]) -> usize {
+    let mut i = 0;
+    while i < out.len() {
+        if expected_byte(written, fill, i) != wide(out[i]) {
+            return i;
+        }
+        i += 1;
+    }
+    i
+}
+
+fn expected_byte(written: &[u64], fill: u8, i: usize) -> u64 {
+    if i < written.len() {
+        return written[i];
+    }
+    wide(fill)
 }

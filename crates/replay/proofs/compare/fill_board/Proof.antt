@@ -1,4 +1,4 @@
--- `replay::play::fill_board` is safe and ends. The measure is how many cells are left, and a store keeps their number.
+-- `replay::compare::fill_board` is safe and ends. The measure is how many cells are left, and a store keeps their number.
 -- Assumes nothing.
 use mathlib.Core.Path.{_≡_}
 use Prim.Native.Nat.{_≤_, _-_}
