@@ -1,4 +1,4 @@
--- 01's twelve examples, and demand 3 at work, by computation: every definition that they cite is unfolded and each side computed.
+-- 01's twelve examples, its printed lists, and demand 3 at work, by computation: every definition that they cite is unfolded and each side computed.
 -- Assumes nothing.
 use mathlib.Core.Path.{refl}
 use lib.Dec.{lit≤}
@@ -6,6 +6,7 @@ use Rattle.rules.specs.Cells.{over}
 use Rattle.rules.specs.Text.{payloadOf}
 use Rattle.rules.specs.Examples.{Twelve, collected, boardBefore, listW, listK, noParameters, stepsW, specBytes, callBytes}
 use Rattle.rules.specs.SheetExamples.{SheetExamples, exampleInput, exampleOutput, bindsTo}
+use Rattle.rules.specs.PrintedExamples.{PrintedExamples, asked, shown, starBytes, steps, allSteps}
 use Rattle.rules.specs.CutExamples.{CutExamples, ends, fills, listM, callBytes as cutBytes}
 
 pub twelve : Twelve
@@ -50,3 +51,16 @@ cut-examples =
 pub sheet-examples : SheetExamples
 unfolding bindsTo exampleInput exampleOutput
 sheet-examples = record { example = refl }
+
+pub printed-examples : PrintedExamples
+unfolding asked shown listW listK stepsW specBytes starBytes steps allSteps payloadOf
+printed-examples =
+    record {
+      printed-w = record { passes = refl; prints = refl };
+      printed-k = record { passes = refl; prints = refl };
+      three-stars = record { passes = refl; prints = refl };
+      four-stars = record { passes = refl; prints = refl };
+      star-alone = record { passes = refl; prints = refl };
+      empty-item = record { passes = refl; prints = refl };
+      all-items = record { passes = refl; prints = refl };
+    }

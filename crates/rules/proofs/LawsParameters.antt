@@ -153,7 +153,7 @@ names-inside area s (t ∷ ts) e =
 
 module _ (A : ℕ) (cells area : List ℕ) (passes : askParameters A cells area ≡ fine) where
   -- 3 to 8 pass
-  from-third : (ask 3 (namesInside area (readParameters cells)) then ask 4 (defaultsRight area (readParameters cells .steps)) then askSteps A area posOnly [] (readParameters cells .steps) then ask 8 (countsAgree (listOf cells area))) ≡ fine
+  pub from-third : (ask 3 (namesInside area (readParameters cells)) then ask 4 (defaultsRight area (readParameters cells .steps)) then askSteps A area posOnly [] (readParameters cells .steps) then ask 8 (countsAgree (listOf cells area))) ≡ fine
   unfolding askParameters
   from-third =
       let rest : Answer = ask 3 (namesInside area (readParameters cells)) then ask 4 (defaultsRight area (readParameters cells .steps)) then askSteps A area posOnly [] (readParameters cells .steps) then ask 8 (countsAgree (listOf cells area)) in

@@ -5,6 +5,7 @@ pub mod LawsText
 pub mod LawsRecord
 pub mod LawsAnswer
 pub mod LawsParameters
+pub mod LawsPrinted
 pub mod LawsPlacement
 pub mod LawsBinding
 pub mod LawsCanFill

@@ -22,6 +22,7 @@ pub mod CutExamples
 pub mod Accessors
 pub mod Reader
 pub mod Printed
+pub mod PrintedExamples
 pub mod SheetValue
 pub mod SheetLines
 pub mod SheetRows
