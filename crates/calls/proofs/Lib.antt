@@ -4,3 +4,4 @@ pub mod LawsCall
 pub mod LawsForm
 pub mod LawsKeys
 pub mod LawsPlaces
+pub mod LawsNamed

@@ -4,3 +4,4 @@ pub mod Places
 pub mod Runs
 pub mod Keys
 pub mod Values
+pub mod Named

@@ -1,4 +1,5 @@
--- 01's twelve examples, its printed lists, and demand 3 at work, by computation: every definition that they cite is unfolded and each side computed.
+-- 01's twelve examples, its example of `bind`, and cuts, printed lists and accessors at work, by computation: every definition that they cite is
+-- unfolded and each side computed.
 -- Assumes nothing.
 use mathlib.Core.Path.{refl}
 use lib.Dec.{lit≤}
@@ -8,6 +9,7 @@ use Rattle.rules.specs.Examples.{Twelve, collected, boardBefore, listW, 
 use Rattle.rules.specs.SheetExamples.{SheetExamples, exampleInput, exampleOutput, bindsTo}
 use Rattle.rules.specs.PrintedExamples.{PrintedExamples, asked, shown, starBytes, steps, allSteps}
 use Rattle.rules.specs.CutExamples.{CutExamples, ends, fills, listM, callBytes as cutBytes}
+use Rattle.rules.specs.AccessExamples.{AccessExamples, mapped, mappedCells, placed, placedCells, counted, unnamed, chosen, chosenCells}
 
 pub twelve : Twelve
 unfolding collected boardBefore listW listK noParameters stepsW specBytes callBytes over payloadOf
@@ -63,4 +65,24 @@ printed-examples =
       star-alone = record { passes = refl; prints = refl };
       empty-item = record { passes = refl; prints = refl };
       all-items = record { passes = refl; prints = refl };
+    }
+
+pub access-examples : AccessExamples
+unfolding mapped mappedCells placed placedCells counted unnamed chosen chosenCells callBytes boardBefore payloadOf over
+access-examples =
+    record {
+      repeated-name = refl;
+      repeated-kept = refl;
+      both-names = refl;
+      both-written = refl;
+      both-values = refl;
+      values-written = refl;
+      repeat-counted = refl;
+      entry-named = refl;
+      first-named = refl;
+      none-named = refl;
+      too-few = refl;
+      one-missing = refl;
+      missing-written = refl;
+      numbers-first = refl;
     }

@@ -20,6 +20,7 @@ pub mod Examples
 pub mod Demand3
 pub mod CutExamples
 pub mod Accessors
+pub mod AccessExamples
 pub mod Reader
 pub mod Printed
 pub mod PrintedExamples

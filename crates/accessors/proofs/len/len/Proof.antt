@@ -1,0 +1,87 @@
+-- `accessors::len::len` meets its contract: the questions in their order, and then a sum of counts that are few.
+-- Assumes nothing.
+use mathlib.Core.Path.{_≡_, sym, ap, _∙_}
+use native.Mathlib.Omega.{arith}
+use Rattle.rules.specs.Answer.{fine}
+use Rattle.rules.specs.CallQuestions.{askCall}
+use Rattle.cells.specs.Answer.{answerOf}
+use Rattle.calls.specs.Head.{headOf, Few}
+use Rattle.calls.proofs.LawsNamed.{passed-few}
+use Rattle.accessors.proofs.LawsAccess.{len-refused, len-star, len-double, len-gives}
+use borrow.Author.Needs.{needs}
+use Rattle.accessors.proofs.len.len.Statement.{statement}
+use Rattle.accessors.proofs.len.len.Tie as tie
+
+ask-call-requires : tie.Need-ask-call-requires
+ask-call-requires c κs = search needs
+
+enum-known-asked : tie.Need-enum-known-asked
+enum-known-asked c = search needs
+
+returns : tie.Need-returns
+returns c =
+    let told = c .before in
+    let asked = told .before .before in
+    len-refused _ _ _ (sym (asked .ask-call .ensures) ∙ ap answerOf (told .asked .given .1))
+
+enum-told : tie.Need-enum-told
+enum-told c = search needs
+
+-- 9 to 13 passed
+passed : (c : tie.After-enum-told) → let a = c .before .before .before .before .before .args in askCall 64 (a .cells .now) (a .area .now) ≡ fine
+passed c = sym (c .before .before .ask-call .ensures) ∙ ap answerOf (c .enum-told .given .1)
+
+few : (c : tie.After-read-head) → Few 64 (headOf (c .read-head .result))
+few c = passed-few _ _ _ (c .read-head .ensures) (passed (c .before))
+
+read-head-requires : tie.Need-read-head-requires
+read-head-requires c κs = search needs
+
+returns-2 : tie.Need-returns-2
+returns-2 c =
+    let r = c .before .before in
+    len-star _ _ _ (r .read-head .ensures) (passed (r .before)) (c .if1 .taken)
+
+returns-3 : tie.Need-returns-3
+returns-3 c =
+    let s = c .before .before in
+    let r = s .before .before in
+    len-double _ _ _ (r .read-head .ensures) (passed (r .before)) (s .if1 .left) (c .if2 .taken)
+
+add-positional : tie.Need-add-positional
+add-positional c =
+    let r = c .before .before .before .before .before in
+    omega (arith, few r .few-p, few r .few-s)
+
+add-named : tie.Need-add-named
+add-named c =
+    let r = c .before .before .before .before .before .before in
+    omega (arith, few r .few-n, few r .few-d)
+
+add-t9 : tie.Need-add-t9
+add-t9 c =
+    let r = c .before .before .before .before .before .before in
+    omega (arith, few r .few-p, few r .few-n, few r .few-s, few r .few-d)
+
+returns-4 : tie.Need-returns-4
+returns-4 c =
+    let d = c .before .before in
+    let s = d .before .before in
+    let r = s .before .before in
+    len-gives _ _ _ (r .read-head .ensures) (passed (r .before)) (s .if1 .left) (d .if2 .left)
+
+pub len-spec : {M : Type 1} → statement M
+len-spec =
+    tie.close
+    (tie.spec
+    ask-call-requires
+    enum-known-asked
+    returns
+    enum-told
+    read-head-requires
+    returns-2
+    returns-3
+    add-positional
+    add-named
+    add-t9
+    returns-4)
