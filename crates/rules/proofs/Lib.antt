@@ -2,6 +2,7 @@
 pub mod Computed
 pub mod LawsListing
 pub mod LawsText
+pub mod LawsDigits
 pub mod LawsRecord
 pub mod LawsAnswer
 pub mod LawsParameters
@@ -13,4 +14,5 @@ pub mod LawsCut
 pub mod LawsFound
 pub mod LawsShort
 pub mod LawsReader
+pub mod LawsSheetValue
 pub mod Demand3

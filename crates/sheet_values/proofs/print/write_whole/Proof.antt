@@ -1,0 +1,62 @@
+-- `sheet_values::print::write_whole` meets its contract. Assumes nothing.
+use mathlib.Core.List.{_∷_}
+use Prim.Native.Nat.{_+_, _-_, _^_}
+use Rattle.rules.specs.SheetValue.{decimal, printWhole}
+use Rattle.cells.proofs.LawsOut.{put-same}
+use Rattle.sheet_values.proofs.LawsPrint.{whole-from-zero, whole-below-zero}
+use borrow.Author.Needs.{needs}
+use Rattle.sheet_values.proofs.print.write_whole.Statement.{statement}
+use Rattle.sheet_values.proofs.print.write_whole.Tie as tie
+
+slice-aggregate-write-number : tie.Need-slice-aggregate-write-number
+slice-aggregate-write-number c = search needs
+
+write-number-requires : tie.Need-write-number-requires
+write-number-requires c κs = search needs
+
+same-length : tie.Need-same-length
+same-length c = search needs
+
+returns : tie.Need-returns
+returns c =
+    let t = c .before .before .before .before .before in
+    let p = t .before .before .args .payload in
+    put-same (105 ∷ decimal p) (105 ∷ printWhole p) (whole-from-zero p (t .if1 .taken)) (c .before .before .write-number .ensures)
+
+slice-aggregate-write-number-2 : tie.Need-slice-aggregate-write-number-2
+slice-aggregate-write-number-2 c = search needs
+
+sub-write-number : tie.Need-sub-write-number
+sub-write-number c = search needs
+
+add-write-number : tie.Need-add-write-number
+add-write-number c = search needs
+
+write-number-requires-2 : tie.Need-write-number-requires-2
+write-number-requires-2 c κs = search needs
+
+same-length-2 : tie.Need-same-length-2
+same-length-2 c = search needs
+
+returns-2 : tie.Need-returns-2
+returns-2 c =
+    let t = c .before .before .before .before .before in
+    let s = t .before .before in
+    let p = s .args .payload in
+    put-same (105 ∷ 45 ∷ decimal (2 ^ 64 - 1 - p + 1)) (105 ∷ printWhole p) (whole-below-zero p (t .if1 .left) (s .fits .payload .fits))
+    (c .before .before .write-number2 .ensures)
+
+pub write-whole-spec : {M : Type 1} → statement M
+write-whole-spec =
+    tie.close
+    (tie.spec
+    slice-aggregate-write-number
+    write-number-requires
+    same-length
+    returns
+    slice-aggregate-write-number-2
+    sub-write-number
+    add-write-number
+    write-number-requires-2
+    same-length-2
+    returns-2)
