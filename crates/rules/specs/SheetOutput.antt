@@ -2,7 +2,9 @@
 use mathlib.Core.Bool.{cond}
 use mathlib.Core.List.{List, [], _∷_, _++_}
 use Prim.Native.Nat.{ℕ, suc}
-use lib.ListN.{take, drop, replicate}
+use lib.Dec.{leb}
+use lib.ListN.{length, take, drop, replicate}
+use Rattle.rules.specs.Cells.{over}
 use Rattle.rules.specs.Value.{Value}
 use Rattle.rules.specs.Answer.{Detail, none, name, count, countAndName, bounds, Area, specArea, callArea, Part}
 use Rattle.rules.specs.ParameterRecord.{encodeParameters}
@@ -99,3 +101,21 @@ verdictText A B input right = sheetsText A B (sheetsIn input)
 -- what `bind` prints for an input
 unfoldable pub bindText : ℕ → ℕ → List ℕ → List ℕ
 bindText A B input = verdictText A B input (judgeInput A B input)
+
+-- ---- `bind` as a function into a lent output
+
+-- how many bytes are room for any answer; 01 names no such number
+unfoldable pub outputLeast : ℕ
+outputLeast = 40960
+
+-- it answers how many bytes it wrote, or that there is no room
+pub data Bound : Type 0 where
+  noRoom : Bound
+  wrote : ℕ → Bound
+
+unfoldable pub bound : ℕ → ℕ → List ℕ → List ℕ → Bound
+bound A B input out = cond (leb outputLeast (length out)) (wrote (length (bindText A B input))) noRoom
+
+-- what the output then holds: the text, and the bytes behind it as they were; without room nothing is written
+unfoldable pub boundLeft : ℕ → ℕ → List ℕ → List ℕ → List ℕ
+boundLeft A B input out = cond (leb outputLeast (length out)) (over (bindText A B input) out) out
