@@ -1,0 +1,18 @@
+-- `sheet_judge::counts::list_kind` meets its contract: each answer rewrites with the test that led there.
+-- Assumes nothing.
+use mathlib.Core.Path.{sym, _∙_}
+use borrow.Author.Needs.{needs}
+use Rattle.sheet_judge.proofs.counts.list_kind.Statement.{statement}
+use Rattle.sheet_judge.proofs.counts.list_kind.Tie as tie
+
+is-list-requires : tie.Need-is-list-requires
+is-list-requires c κs = search needs
+
+returns : tie.Need-returns
+returns c = rw (sym (c .before .is-list .ensures) ∙ c .if1 .taken)
+
+returns-2 : tie.Need-returns-2
+returns-2 c = rw (sym (c .before .is-list .ensures) ∙ c .if1 .left)
+
+pub list-kind-spec : {M : Type 1} → statement M
+list-kind-spec = tie.close (tie.spec is-list-requires returns returns-2)

@@ -1,0 +1,54 @@
+-- `sheet_records::call::write_head` meets its contract: the six cells are stored two by two.
+-- Assumes nothing.
+use mathlib.Core.Path.{ap}
+use borrow.Author.Needs.{needs}
+use Rattle.cells.specs.Value.{pairOf}
+use Rattle.sheet_records.proofs.LawsCall.{head-stored}
+use Rattle.sheet_records.proofs.call.write_head.Statement.{statement}
+use Rattle.sheet_records.proofs.call.write_head.Tie as tie
+
+new-requires : tie.Need-new-requires
+new-requires c κs = search needs
+
+put-requires : tie.Need-put-requires
+put-requires c κs = search needs
+
+new-requires-2 : tie.Need-new-requires-2
+new-requires-2 c κs = search needs
+
+put-requires-2 : tie.Need-put-requires-2
+put-requires-2 c κs = search needs
+
+new-requires-3 : tie.Need-new-requires-3
+new-requires-3 c κs = search needs
+
+put-requires-3 : tie.Need-put-requires-3
+put-requires-3 c κs = search needs
+
+same-length : tie.Need-same-length
+same-length c = search needs
+
+returns : tie.Need-returns
+returns c =
+    let third = c .before .before in
+    let second = third .before .before .before .before .before in
+    let first = second .before .before .before .before .before in
+    let start = first .before .before .before .before in
+    let a = start .args in
+    head-stored (a .counts) (a .cells .now) (first .put .last .0) (second .put2 .last .0) (third .put3 .last .0)
+    (pairOf (first .before .new .result)) (pairOf (second .before .new2 .result)) (pairOf (third .before .new3 .result))
+    (start .pre) (first .put .ensures) (second .put2 .ensures) (third .put3 .ensures)
+    (ap pairOf (first .before .new .ensures)) (ap pairOf (second .before .new2 .ensures)) (ap pairOf (third .before .new3 .ensures))
+
+pub write-head-spec : {M : Type 1} → statement M
+write-head-spec =
+    tie.close
+    (tie.spec
+    new-requires
+    put-requires
+    new-requires-2
+    put-requires-2
+    new-requires-3
+    put-requires-3
+    same-length
+    returns)
