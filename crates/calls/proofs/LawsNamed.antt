@@ -1,15 +1,15 @@
 -- P and N of a record that passes 9 to 13 (01, placement), as lists of what stands at the places that the code computes: P, the written
 -- names, the entries, and N where every key is a text. Then what 11 says of the names and keys that stand there, and how far into the
 -- record that is. The call is `callOf cells area`, and `h` the head that was read. Assumes nothing.
-use mathlib.Core.Path.{_≡_, refl, sym, ap, ap₂, subst, _∙_}
+use mathlib.Core.Path.{_≡_, refl, sym, ap, subst, _∙_}
 use mathlib.Core.Bool.{Bool, true, false, cond, not, _&&_, _||_}
-use mathlib.Core.List.{List, [], _∷_}
-use Prim.Native.Nat.{ℕ, suc, _+_, _-_, _≤_, _<_}
-use native.Mathlib.Nat.{add-zero, zero-add}
+use mathlib.Core.List.{List, []}
+use Prim.Native.Nat.{ℕ, _+_, _-_, _≤_, _<_}
+use native.Mathlib.Nat.{zero-add}
 use native.Mathlib.Omega.{arith}
 use borrow.Author.Tests.{eqb-true, ltb-true, ltb-false}
 use lib.Dec.{eqb, ltb, leb}
-use lib.ListN.{length, getD}
+use lib.ListN.{length}
 use Rattle.rules.specs.Listing.{all}
 use Rattle.rules.specs.Text.{sizeOf, inside, isText, textIn}
 use Rattle.rules.specs.Value.{Value, noValue, valueWidth, callText, wellFormedName, wellFormedKey}
@@ -25,22 +25,13 @@ use Rattle.cells.specs.Listed.{listed}
 use Rattle.calls.specs.Head.{Few, entriesFrom}
 use Rattle.calls.specs.Places.{namedAt}
 use Rattle.calls.specs.Runs.{pairsAt}
+use Rattle.cells.proofs.LawsListed.{elements}
 use Rattle.calls.specs.Values.{positionalAt, valuesIn}
 use Rattle.calls.specs.Named.{pairNamed, pairEntry, namesIn, entriesIn}
 use Rattle.calls.proofs.LawsEach.{all-at}
 use Rattle.calls.proofs.LawsForm.{pair-name, entry-key}
 use Rattle.calls.proofs.LawsCall.{lengths-few, lengths-length, form-lengths, form-kinds, form-parts, call-form}
 use Rattle.calls.proofs.LawsPlaces.{positionals-length, named-length, entries-length, entries-run, star-passes, double-passes, positional-at, named-at, entry-at, pair-within, named-formed, entry-formed, N-length, N-at}
-
--- a list by its elements
-pub elements : {X : Type 0} (f : ℕ → X) (d : X) (i : ℕ) (xs : List X) → ((k : ℕ) → k < length xs → getD xs k d ≡ f (i + k)) → xs ≡ listed f i (length xs)
-elements f d i [] each = refl
-elements {X} f d i (x ∷ xs) each =
-    ap₂ {C = List X} (λ y ys. y ∷ ys) (each 0 (omega arith) ∙ ap f (add-zero i))
-    (elements f d (suc i) xs (λ k h. each (suc k) (omega arith) ∙ ap f (next i k)))
-  where
-    next : (a b : ℕ) → a + suc b ≡ suc a + b
-    next a b = omega arith
 
 -- ---- a text that is well formed
 

@@ -1,7 +1,7 @@
 -- Laws of lists given by their elements and of what `rules` computes over a list, in this order: how long such a list is; its first
 -- element and the rest; one more element at the end; equal elements; counts and first indices after one more element at the end;
--- tests of all or any of the elements, as a loop over the list asks for them. Assumes nothing.
-use mathlib.Core.Path.{_≡_, refl, ap, _∙_}
+-- tests of all or any of the elements, as a loop over the list asks for them; a list that has these elements. Assumes nothing.
+use mathlib.Core.Path.{_≡_, refl, ap, ap₂, _∙_}
 use mathlib.Core.Bool.{Bool, true, false, cond}
 use mathlib.Core.List.{List, [], _∷_, _++_}
 use mathlib.Core.Option.{Option, none, some}
@@ -9,7 +9,7 @@ use Prim.Native.Nat.{ℕ, zero, suc, _+_, _-_, _<_, _≤_}
 use native.Mathlib.Nat.{zero-add, add-zero, add-suc, suc-add}
 use native.Mathlib.Numerals.{add-one}
 use native.Mathlib.Omega.{arith}
-use lib.ListN.{length}
+use lib.ListN.{length, getD}
 use Rattle.rules.specs.Listing.{any, all, tally, firstFrom}
 use Rattle.cells.specs.Listed.{listed}
 
@@ -96,3 +96,13 @@ module _ {X : Type 0} (test : X → Bool) (at : ℕ → X) (i n : ℕ) (h : i < 
 
   pub all-next : test (at i) ≡ true → all test (listed at i (n - i)) ≡ all test (listed at (i + 1) (n - (i + 1)))
   all-next e = rw (listed-next at i n h, e)
+
+-- a list by its elements
+pub elements : {X : Type 0} (f : ℕ → X) (d : X) (i : ℕ) (xs : List X) → ((k : ℕ) → k < length xs → getD xs k d ≡ f (i + k)) → xs ≡ listed f i (length xs)
+elements f d i [] each = refl
+elements {X} f d i (x ∷ xs) each =
+    ap₂ {C = List X} (λ y ys. y ∷ ys) (each 0 (omega arith) ∙ ap f (add-zero i))
+    (elements f d (suc i) xs (λ k h. each (suc k) (omega arith) ∙ ap f (next i k)))
+  where
+    next : (a b : ℕ) → a + suc b ≡ suc a + b
+    next a b = omega arith

@@ -29,7 +29,7 @@ use Rattle.cells.specs.Out.{stored}
 use Rattle.cells.specs.Listed.{listed}
 use Rattle.builder.specs.Params.{parametersIn}
 use Rattle.builder.specs.declared.spec.ParametersSpec.{ParametersSpec}
-use Rattle.cells.proofs.LawsListed.{length-listed}
+use Rattle.cells.proofs.LawsListed.{length-listed, elements}
 use Rattle.answers.specs.Answer.{told, answerIn, isRefusal, countsOf}
 use Rattle.calls.specs.Head.{namedFrom, entriesFrom}
 use Rattle.findings.specs.Resolved.{namedAt, Resolved}
@@ -45,7 +45,7 @@ use Rattle.cells.proofs.LawsOut.{stored-first}
 use Rattle.cells.proofs.LawsWrite.{valueCells-two}
 use Rattle.collector.proofs.LawsFillable.{positionals-are}
 use Rattle.findings.proofs.LawsNames.{few-list, length-list}
-use Rattle.slots.proofs.LawsWritten.{elements, board-placed, counts-placed}
+use Rattle.slots.proofs.LawsWritten.{board-placed, counts-placed}
 
 -- where two answers are the same outcome over the same board, they tell the same and leave the same cells
 pub paths-agree : (o : Outcome) (before after after' : List ℕ) (r r' : Collected) → Ends o before after r → Ends o before after' r' → (told r after ≡ told r' after') × (after ≡ after')

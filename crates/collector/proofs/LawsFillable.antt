@@ -2,22 +2,20 @@
 -- `h` is the head that was read.
 -- Assumes nothing.
 use mathlib.Core.Path.{_≡_, refl, sym, ap, _∙_}
-use mathlib.Core.Bool.{true, _&&_}
+use mathlib.Core.Bool.{true}
 use mathlib.Core.List.{List, [], _∷_, map}
 use Prim.Native.Nat.{ℕ, zero, suc, _+_, _*_, _<_}
 use native.Mathlib.Omega.{arith}
-use lib.Dec.{leb, eqb}
 use lib.ListN.{length, drop}
 use lib.Seq.{drop-drop}
 use Rattle.rules.specs.Cells.{readEach}
-use Rattle.rules.specs.Text.{sizeOf, inside, isText}
-use Rattle.rules.specs.Value.{Value, valueWidth, readValue, callText, wellFormedName}
+use Rattle.rules.specs.Text.{inside}
+use Rattle.rules.specs.Value.{valueWidth, readValue, wellFormedName}
 use Rattle.rules.specs.Answer.{fine, refuse, Detail}
 use Rattle.rules.specs.CallRecord.{Head, Pair, headWidth, pairWidth, readHead, readPair, readCall, namedIn}
 use Rattle.rules.specs.CallQuestions.{wellFormedPair, askForm}
 use Rattle.rules.specs.ParameterQuestions.{askParameters, listOf}
 use Rattle.rules.specs.CanFill.{canFill, refusedFilling, answered, fillable}
-use Rattle.rules.proofs.LawsListing.{and-left, and-right}
 use Rattle.cells.specs.Record.{pairAt}
 use Rattle.cells.specs.Listed.{listed}
 use Rattle.builder.specs.Params.{parametersIn}
@@ -26,17 +24,11 @@ use Rattle.calls.specs.Head.{namedFrom}
 use Rattle.calls.specs.Runs.{pairsAt}
 use Rattle.calls.proofs.LawsEach.{each-length, each-at, each-map, all-at}
 use Rattle.calls.proofs.LawsForm.{pair-name}
+use Rattle.calls.proofs.LawsNamed.{name-inside}
 use Rattle.calls.proofs.LawsCall.{call-positionals, call-named, lengths-few, formed-named, form-lengths, form-parts}
 use Rattle.findings.specs.Resolved.{namedAt}
 use Rattle.findings.specs.Resolve.{Prepared}
 use Rattle.collector.specs.CanFill.{writtenIn, FillReady}
-
-pub name-inside : (area : List ℕ) (v : Value) → wellFormedName area v ≡ true → inside area (v .payload) ≡ true
-unfolding wellFormedName isText
-name-inside area v e =
-    and-left (inside area (v .payload)) (leb 1 (sizeOf (v .payload)))
-    (and-left (inside area (v .payload) && leb 1 (sizeOf (v .payload))) (leb (sizeOf (v .payload)) 64)
-    (and-right (eqb (v .kind) callText) (inside area (v .payload) && leb 1 (sizeOf (v .payload)) && leb (sizeOf (v .payload)) 64) e))
 
 -- pairs that are consumed, as a list by index
 pub pairs-listed : {X : Type 0} (read : List ℕ → X) (cells : List ℕ) (from i n : ℕ) → readEach 4 read n (drop (from + 4 * i) cells) ≡ listed (λ k. read (drop (from + 4 * k) cells)) i n

@@ -31,7 +31,8 @@ use Rattle.findings.specs.Resolve.{Prepared, Pairs}
 use Rattle.findings.specs.EntriesDone.{writtenNames, entryAt, entriesIn}
 use Rattle.calls.specs.Values.{positionalAt}
 use Rattle.questions.specs.Questions.{CallReady}
-use Rattle.collector.proofs.LawsFillable.{name-inside, pairs-listed, name-formed}
+use Rattle.calls.proofs.LawsNamed.{name-inside}
+use Rattle.collector.proofs.LawsFillable.{pairs-listed, name-formed}
 
 -- ---- runs of pairs, by index
 

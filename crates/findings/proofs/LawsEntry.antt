@@ -34,6 +34,7 @@ use Rattle.lookup.specs.declared.Finding.the-variants.{At, Unknown}
 use Rattle.lookup.specs.Lookup.{findingOf, findIn}
 use Rattle.lookup.proofs.LawsBuilt.{lookup-columns}
 use Rattle.answers.specs.Answer.{placeOf}
+use Rattle.calls.proofs.LawsNamed.{key-inside}
 use Rattle.findings.specs.Resolved.{sourceValue, Resolved}
 use Rattle.findings.specs.Resolve.{Prepared}
 use Rattle.findings.specs.Entries.{heldNames, takenBy, freeOr, enteredBy, wordAt, enteredAt, entryAnswer}
@@ -63,19 +64,7 @@ module _ (qs : List Parameter) (cells area : List ℕ) (P : List Value) (N : Lis
       filled : namesFilled P 0 qs b ≡ false
       filled = names-filled qs P b anyParameter first apart ∙ ap (isBelow (min (length P) (positionalCount qs))) (sym e)
 
--- ---- a key that is well formed
-
--- one that is a text lies inside the area
-pub key-inside : (area : List ℕ) (v : Value) → wellFormedKey area v ≡ true → eqb (v .kind) callText ≡ true → inside area (v .payload) ≡ true
-unfolding wellFormedKey isText callText
-key-inside area v e k = go (eqb (v .kind) 3) refl e
-  where
-    go : (b : Bool) → eqb (v .kind) 3 ≡ b → (b || eqb (v .kind) 6 && (inside area (v .payload) && leb 0 (sizeOf (v .payload)) && leb (sizeOf (v .payload)) 64)) ≡ true → inside area (v .payload) ≡ true
-    go true p f = absurd (omega (arith, eqb-true (v .kind) 3 p, eqb-true (v .kind) 6 k))
-    go false p f =
-        and-left (inside area (v .payload)) (leb 0 (sizeOf (v .payload)))
-        (and-left (inside area (v .payload) && leb 0 (sizeOf (v .payload))) (leb (sizeOf (v .payload)) 64)
-        (and-right (eqb (v .kind) 6) (inside area (v .payload) && leb 0 (sizeOf (v .payload)) && leb (sizeOf (v .payload)) 64) f))
+-- ---- an entry by the cells of its key
 
 module _ (spec : List ℕ) (l : ParametersSpec) (cells area : List ℕ) (list : Prepared spec l) (P : List Value) (N : List Named) (sources rest : List ℕ) (count next : ℕ)
     (upto : next ≡ min (length P) (positionalCount (parametersIn spec (l .params)))) (r : Resolved (parametersIn spec (l .params)) cells area N sources rest count)

@@ -21,6 +21,7 @@ use Rattle.cells.proofs.LawsListed.{length-listed, listed-next, listed-more}
 use Rattle.calls.specs.Head.{Few, namedFrom, itemsFrom, entriesFrom}
 use Rattle.lookup.specs.declared.Finding.{Finding}
 use Rattle.lookup.specs.Lookup.{findingOf}
+use Rattle.calls.proofs.LawsNamed.{key-inside}
 use Rattle.findings.specs.Resolved.{namedAt, Resolved}
 use Rattle.findings.specs.Resolve.{Below, pairsFrom, sourcesAfter, restAfter, countAfter}
 use Rattle.findings.specs.Entries.{Held, enteredAt, entryAnswer}
@@ -29,7 +30,7 @@ use Rattle.findings.specs.declared.entries.Entered.{Entered}
 use Rattle.findings.specs.declared.entries.Entered.the-variants.{Free}
 use Rattle.findings.proofs.LawsResolved.{entered, entered-below}
 use Rattle.findings.proofs.LawsNames.{anyParameter, few-list}
-use Rattle.findings.proofs.LawsEntry.{key-inside, entry-answer, entry-free}
+use Rattle.findings.proofs.LawsEntry.{entry-answer, entry-free}
 
 -- the remainder's pairs of names that are resolved are held
 pub resolved-held : (qs : List Parameter) (cells area : List ℕ) (N : List Named) (sources rest : List ℕ) (count : ℕ) → Resolved qs cells area N sources rest count → length N ≤ 128 → Held area cells rest count

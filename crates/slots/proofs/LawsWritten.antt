@@ -3,8 +3,7 @@
 -- Assumes nothing.
 use mathlib.Core.Path.{_≡_, refl, sym, ap, ap₂, _∙_}
 use mathlib.Core.List.{List, [], _∷_, _++_, append-assoc}
-use Prim.Native.Nat.{ℕ, suc, _+_, _-_, _*_, min, _≤_, _<_}
-use native.Mathlib.Nat.{add-zero}
+use Prim.Native.Nat.{ℕ, _+_, _-_, _*_, min, _≤_, _<_}
 use native.Mathlib.Omega.{arith}
 use lib.ListN.{length, take, getD, length-append, length-drop, length-map, length-take}
 use lib.Seq.{getD-drop}
@@ -20,7 +19,7 @@ use Rattle.cells.specs.Out.{stored}
 use Rattle.cells.specs.Listed.{listed}
 use Rattle.builder.specs.Params.{parametersIn}
 use Rattle.builder.specs.declared.spec.ParametersSpec.{ParametersSpec}
-use Rattle.cells.proofs.LawsListed.{length-listed}
+use Rattle.cells.proofs.LawsListed.{length-listed, elements}
 use Rattle.findings.specs.Resolved.{namedAt, Resolved}
 use Rattle.findings.specs.Resolve.{Prepared}
 use Rattle.answers.specs.Answer as answer
@@ -117,16 +116,6 @@ module _ (l : ParametersSpec) (cells : List ℕ) (h : Head) (next : ℕ) (source
       }
 
 -- ---- what placement gives
-
--- a list by its elements
-pub elements : {X : Type 0} (f : ℕ → X) (d : X) (i : ℕ) (xs : List X) → ((k : ℕ) → k < length xs → getD xs k d ≡ f (i + k)) → xs ≡ listed f i (length xs)
-elements f d i [] each = refl
-elements {X} f d i (x ∷ xs) each =
-    ap₂ {C = List X} (λ y ys. y ∷ ys) (each 0 (omega arith) ∙ ap f (add-zero i))
-    (elements f d (suc i) xs (λ k h. each (suc k) (omega arith) ∙ ap f (next i k)))
-  where
-    next : (a b : ℕ) → a + suc b ≡ suc a + b
-    next a b = omega arith
 
 pub remainder-length : (qs : List Parameter) (cells area : List ℕ) (N : List Named) (sources rest : List ℕ) (count : ℕ) → Resolved qs cells area N sources rest count → count ≤ 128 → length (rules.namedRemainder qs N) ≡ count
 remainder-length qs cells area N sources rest count r few = ap length (r .rest-is) ∙ length-map (take count rest) (namedAt area cells) ∙ length-take count rest ∙ least

@@ -5,13 +5,12 @@ use Prim.Native.Nat.{ℕ, _+_, _-_, _≤_, _<_}
 use lib.ListN.{length, getD}
 use Rattle.rules.specs.Listing.{tally}
 use Rattle.rules.specs.Cells.{writeEach}
-use Rattle.rules.specs.Value.{Value, callText, valueCells}
+use Rattle.rules.specs.Value.{callText, valueCells}
 use Rattle.rules.specs.CallRecord.{Head}
 use Rattle.rules.specs.Placement as rules
 use Rattle.rules.specs.Board.{slotCells, namedCells}
 use Rattle.cells.specs.Record.{pairAt}
 use Rattle.cells.specs.Out.{stored}
-use Rattle.cells.specs.Listed.{listed}
 use Rattle.builder.specs.declared.spec.ParametersSpec.{ParametersSpec}
 use Rattle.calls.specs.Head.{Few}
 use Rattle.calls.specs.Values.{valuesIn}
