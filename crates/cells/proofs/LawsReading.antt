@@ -1,6 +1,6 @@
 -- Reading a value, a key and a name out of two cells (01, cells, texts and records), one by way of another, as the code goes:
--- a text that was read, as a value; a key, by the value that was read; a name, by the key. What each of them is by itself is said
--- in specs/Value.antt, and that cells and values go over into each other in LawsValue.antt. Assumes nothing.
+-- a text that was read, as a value; a value on a board, by its kind; a key, by the value that was read; a name, by the key. What each of them
+-- is by itself is said in specs/Value.antt, and that cells and values go over into each other in LawsValue.antt. Assumes nothing.
 use mathlib.Core.Path.{_≡_, refl, ap, _∙_, subst⁻¹}
 use mathlib.Core.Bool.{Bool, true, false, cond, _&&_, _||_}
 use mathlib.Core.List.{List}
@@ -9,11 +9,11 @@ use lib.Dec.{eqb, leb, leb·zero, leb·suc-suc, eqb·suc-zero}
 use lib.Ieee.{binary64, nanBits, ofBits}
 use mir.Syntax.{w64}
 use mir.Val.{toZ}
-use borrow.Author.Tests.{eqb-true, eqb-false, ne-eqb}
+use borrow.Author.Tests.{eqb-true, eqb-false, eq-eqb, ne-eqb}
 use Rattle.rules.specs.Text.{isText, inside, startOf, sizeOf}
 use Rattle.rules.specs.Value.{wellFormed, wellFormedDefault, wellFormedArgument, wellFormedName, wellFormedKey, specText, callText}
 use Rattle.cells.specs.Text.{textOf, readText}
-use Rattle.cells.specs.Value.{value, realOf, valueAs, readDefault, readArgument, readName, readKey}
+use Rattle.cells.specs.Value.{value, realOf, valueAs, readDefault, readArgument, wellFormedSlot, readSlot, readName, readKey}
 use Rattle.cells.specs.declared.text.Text.{Text}
 use Rattle.cells.specs.declared.text.ReadText.{ReadText}
 use Rattle.cells.specs.declared.text.ReadText.the-variants as text
@@ -42,6 +42,16 @@ default-text area payload = text-or-not SpecText (textOf payload) (isText 0 area
 pub argument-text : (area : List ℕ) (payload : ℕ) → readArgument area 6 payload ≡ asValue CallText (readText 0 area payload)
 unfolding readArgument wellFormedArgument wellFormed callText readText
 argument-text area payload = text-or-not CallText (textOf payload) (isText 0 area payload)
+
+-- ---- a value on a board, by its kind
+
+pub slot-default : (spec call : List ℕ) (kind payload : ℕ) → kind ≡ 5 → readDefault spec kind payload ≡ readSlot spec call kind payload
+unfolding readSlot readDefault wellFormedSlot specText
+slot-default spec call kind payload e = rw (eq-eqb kind 5 e)
+
+pub slot-argument : (spec call : List ℕ) (kind payload : ℕ) → (kind ≡ 5 → ⊥) → readArgument call kind payload ≡ readSlot spec call kind payload
+unfolding readSlot readArgument wellFormedSlot specText
+slot-argument spec call kind payload e = rw (ne-eqb kind 5 e)
 
 -- ---- a key, by the value that was read, and a name, by the key
 

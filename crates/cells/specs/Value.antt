@@ -1,6 +1,6 @@
 -- A value of the code and its two cells (01, cells, texts and records; the form that 01 asks for, an enum with a case for each kind), and
 -- what reading the two cells answers. Which cells are well formed is said in `rules`.
-use mathlib.Core.Bool.{cond}
+use mathlib.Core.Bool.{Bool, cond}
 use mathlib.Core.List.{List}
 use Prim.Native.Nat.{ℕ, zero, suc}
 use lib.Dec.{eqb}
@@ -73,6 +73,15 @@ readDefault area kind payload =
 unfoldable pub readArgument : List ℕ → ℕ → ℕ → ReadValue
 readArgument area kind payload =
     cond (rules.wellFormedArgument area (value kind payload)) (Is (valueAs kind payload)) Not
+
+-- on a board a text of kind 5 stands in the spec area, as a default has it; anything else stands there as an argument has it
+unfoldable pub wellFormedSlot : List ℕ → List ℕ → rules.Value → Bool
+wellFormedSlot spec call v =
+    cond (eqb (v .kind) rules.specText) (rules.wellFormedDefault spec v) (rules.wellFormedArgument call v)
+
+unfoldable pub readSlot : List ℕ → List ℕ → ℕ → ℕ → ReadValue
+readSlot spec call kind payload =
+    cond (wellFormedSlot spec call (value kind payload)) (Is (valueAs kind payload)) Not
 
 -- a name in a call
 unfoldable pub readName : List ℕ → ℕ → ℕ → ReadText

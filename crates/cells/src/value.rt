@@ -9,7 +9,7 @@ ghost use Prim.Native.Nat.{ℕ};
 ghost use lib.Ieee.{binary64, toBits};
 ghost use mir.Syntax.{w64};
 ghost use mir.Val.{toZ, ofZ};
-ghost use Rattle.cells.specs.Value.{pair, cellsOf, realOf, readAs, readDefault, readArgument, readName, readKey};
+ghost use Rattle.cells.specs.Value.{pair, cellsOf, realOf, readAs, readDefault, readArgument, readSlot, readName, readKey};
 
 pub enum Value {
     Nothing,
@@ -90,6 +90,16 @@ pub fn read_argument(area: &[u8], kind: u64, payload: u64) -> ReadValue
         ReadText::Is(t) => ReadValue::Is(Value::CallText(t)),
         ReadText::Not => ReadValue::Not,
     }
+}
+
+// A value on a board: a text of kind 5 is a default's, anything else is as in a call.
+pub fn read_slot(spec: &[u8], call: &[u8], kind: u64, payload: u64) -> ReadValue
+    ensures { λ r. ⌜ r ≡ readSlot (now (spec .entry)) (now (call .entry)) kind payload ⌝ }
+{
+    if kind == 5 {
+        return read_default(spec, kind, payload);
+    }
+    read_argument(call, kind, payload)
 }
 
 // A value that is no text, which is the same wherever it stands: whatever kind of text is used there.

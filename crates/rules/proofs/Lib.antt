@@ -15,4 +15,5 @@ pub mod LawsFound
 pub mod LawsShort
 pub mod LawsReader
 pub mod LawsSheetValue
+pub mod LawsSheetOutput
 pub mod Demand3

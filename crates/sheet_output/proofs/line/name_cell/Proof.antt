@@ -1,0 +1,68 @@
+-- `sheet_output::line::name_cell` meets its contract: each cell by what the code says. Assumes nothing.
+use mathlib.Core.Path.{sym, ap, _∙_}
+use native.Mathlib.Omega.{arith}
+use mathlib.Core.List.{[], _∷_, _++_}
+use lib.ListN.{length}
+use Rattle.cells.proofs.LawsOut.{put-same}
+use Rattle.sheet_output.specs.Line.{shownName}
+use Rattle.sheet_output.proofs.LawsLine.{shownName-length, nameFor-plain, nameFor-args, nameFor-kwargs}
+use borrow.Author.Needs.{needs}
+use Rattle.sheet_output.proofs.line.name_cell.Statement.{statement}
+use Rattle.sheet_output.proofs.line.name_cell.Tie as tie
+
+is-plain-requires : tie.Need-is-plain-requires
+is-plain-requires c κs = search needs
+
+name-in-requires : tie.Need-name-in-requires
+name-in-requires c κs = search needs
+
+slice-aggregate-text-cell : tie.Need-slice-aggregate-text-cell
+slice-aggregate-text-cell c = search needs
+
+text-cell-requires : tie.Need-text-cell-requires
+text-cell-requires c κs = let a = c .before .before .before .before .before .before .before .args in omega (arith, ap length (c .before .before .name-in .ensures), shownName-length (a .spec .now) (a .name))
+
+same-length : tie.Need-same-length
+same-length c = search needs
+
+returns : tie.Need-returns
+returns c =
+    let a = c .before .before .before .before .before .before .before .before .before .before .args in
+    put-same _ _ (ap (λ l. l ++ (44 ∷ [])) (c .before .before .before .before .before .name-in .ensures ∙ sym (nameFor-plain (a .code) (shownName (a .spec .now) (a .name)) (sym (c .before .before .before .before .before .before .before .is-plain .ensures) ∙ c .before .before .before .before .before .before .if1 .taken)))) (c .before .before .text-cell .ensures)
+
+slice-aggregate-text-cell-2 : tie.Need-slice-aggregate-text-cell-2
+slice-aggregate-text-cell-2 c = search needs
+
+slice-aggregate-text-cell-3 : tie.Need-slice-aggregate-text-cell-3
+slice-aggregate-text-cell-3 c = search needs
+
+text-cell-requires-2 : tie.Need-text-cell-requires-2
+text-cell-requires-2 c κs = search needs
+
+same-length-2 : tie.Need-same-length-2
+same-length-2 c = search needs
+
+returns-2 : tie.Need-returns-2
+returns-2 c =
+    let a = c .before .before .before .before .before .before .before .before .before .before .before .args in
+    put-same _ _ (ap (λ l. l ++ (44 ∷ [])) (sym (nameFor-args (a .code) (shownName (a .spec .now) (a .name)) (c .before .before .before .before .before .before .if2 .taken)))) (c .before .before .text-cell2 .ensures)
+
+slice-aggregate-text-cell-4 : tie.Need-slice-aggregate-text-cell-4
+slice-aggregate-text-cell-4 c = search needs
+
+slice-aggregate-text-cell-5 : tie.Need-slice-aggregate-text-cell-5
+slice-aggregate-text-cell-5 c = search needs
+
+text-cell-requires-3 : tie.Need-text-cell-requires-3
+text-cell-requires-3 c κs = search needs
+
+same-length-3 : tie.Need-same-length-3
+same-length-3 c = search needs
+
+returns-3 : tie.Need-returns-3
+returns-3 c =
+    let a = c .before .before .before .before .before .before .before .before .before .before .before .args in
+    put-same _ _ (ap (λ l. l ++ (44 ∷ [])) (sym (nameFor-kwargs (a .code) (shownName (a .spec .now) (a .name)) (sym (c .before .before .before .before .before .before .before .before .is-plain .ensures) ∙ c .before .before .before .before .before .before .before .if1 .left) (c .before .before .before .before .before .before .if2 .left)))) (c .before .before .text-cell3 .ensures)
+
+pub name-cell-spec : {M : Type 1} → statement M
+name-cell-spec = tie.close (tie.spec is-plain-requires name-in-requires slice-aggregate-text-cell text-cell-requires same-length returns slice-aggregate-text-cell-2 slice-aggregate-text-cell-3 text-cell-requires-2 same-length-2 returns-2 slice-aggregate-text-cell-4 slice-aggregate-text-cell-5 text-cell-requires-3 same-length-3 returns-3)
