@@ -1,0 +1,4 @@
+-- What the proofs of several functions share.
+pub mod LawsRecords
+pub mod LawsPlaces
+pub mod LawsBind

@@ -1,0 +1,2 @@
+-- What binding two sheets promises.
+pub mod Bind
