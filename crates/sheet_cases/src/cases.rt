@@ -31,10 +31,7 @@ pub fn case_at(text: &[u8], at: usize) -> Case {
 
 // The decimal that begins at an index. No number of the input has more than nine digits.
 fn number_at(text: &[u8], at: usize) -> Number {
-    let mut number = Number {
-        value: 0,
-        end: at,
-    };
+    let mut number = Number { value: 0, end: at };
     let mut left: usize = 9;
     while 0 < left {
         number = with_digit(text, number);

@@ -43,8 +43,7 @@ bind-list-requires c κs =
     let built = told .before .before in
     let start = built .before .before .before .before .before .before in
     let a = start .args in
-    let e = told .enum-told .given .1 in
-    (
+    let e = told .enum-told .given .1 in (
       record {
         prepared = built-prepared (a .spec-cells .now) (a .spec .now) (built .build .result) (built .build .ensures) e;
         cells = a .spec-cells .now;
