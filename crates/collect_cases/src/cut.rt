@@ -51,12 +51,11 @@ pub fn same_cut<'a>(
     join(cells, HEAD, p, HEAD + p + n, &mut values);
     join(cells, HEAD + p, n, HEAD + p + n + s, &mut pairs);
     let positionals = from_to(&values, 0, p + s);
-    let named = from_to(&pairs, 0, n + d);
     let played = play(
         spec_cells,
         spec,
         positionals,
-        named,
+        from_to(&pairs, 0, n + d),
         call,
         cut_of(cells),
         &mut board,
