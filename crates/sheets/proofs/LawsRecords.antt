@@ -9,12 +9,9 @@ use Rattle.rules.specs.Value.{Value}
 use Rattle.rules.specs.CallRecord.{Named, positionalsOf, namedOf}
 use Rattle.rules.specs.Parameters.{Parameter}
 use Rattle.rules.specs.ParameterQuestions.{askParameters, listOf}
-use Rattle.rules.specs.CallQuestions.{askCall, askBoard}
 use Rattle.rules.specs.Binding.{askBinding}
 use Rattle.rules.specs.Collection.{outcomeOf, callOf, askRecords, collection}
 use Rattle.rules.specs.SheetOutput.{refusalText, outcomeText}
-use Rattle.rules.proofs.LawsAnswer.{then-left, then-right}
-use Rattle.rules.proofs.LawsPrinted.{list-few}
 use Rattle.cells.specs.Out.{Put}
 use Rattle.cells.proofs.LawsOut.{put-same}
 use Rattle.builder.specs.Params.{parametersIn}
@@ -25,7 +22,7 @@ use Rattle.answers.specs.declared.answer.Collected.{Collected}
 use Rattle.collector.specs.Collect.{Ends, boundTo}
 use Rattle.collector.proofs.LawsEnds.{collection-refused, collection-bound}
 use Rattle.sheet_output.specs.Outcome.{OutcomeRoom, OutcomeReady}
-use Rattle.sheet_output.proofs.LawsPassed.{output-fits, positionals-few, named-few, records-printable, collected-inside, collected-ready, collected-room}
+use Rattle.sheet_output.proofs.LawsPassed.{collected-fits, collected-ready, collected-room}
 use Rattle.sheets.specs.Bind.{boundText, recordsText, ListReady}
 
 abbrev zeros : List ℕ
@@ -69,24 +66,6 @@ module _ (spec : List ℕ) (l : ParametersSpec) (ready : ListReady spec l) (cell
 
 -- ---- how long it is
 
-module _ (specCells spec cells call : List ℕ) where
-  abbrev asked : Answer
-  asked = askRecords 64 64 specCells spec cells call zeros then askBinding (listOf specCells spec) (callOf cells call)
-
-  passed : asked ≡ fine → askRecords 64 64 specCells spec cells call zeros ≡ fine
-  passed e = then-left (askRecords 64 64 specCells spec cells call zeros) (askBinding (listOf specCells spec) (callOf cells call)) e
-
-  passed-list : asked ≡ fine → askParameters 64 specCells spec ≡ fine
-  unfolding askRecords
-  passed-list e = then-left (askParameters 64 specCells spec) (askCall 64 cells call then askBoard 64 64 zeros) (passed e)
-
-  passed-call : asked ≡ fine → askCall 64 cells call ≡ fine
-  unfolding askRecords
-  passed-call e = then-left (askCall 64 cells call) (askBoard 64 64 zeros) (then-right (askParameters 64 specCells spec) (askCall 64 cells call then askBoard 64 64 zeros) (passed e))
-
-  pub records-fit : length (recordsText specCells spec cells call) ≤ 40960
-  unfolding recordsText collection
-  records-fit =
-      output-fits spec call (listOf specCells spec) (positionalsOf (callOf cells call)) (namedOf (callOf cells call)) asked zeros
-      (λ e. records-printable specCells spec cells call zeros (passed e)) (collected-inside specCells spec cells call zeros)
-      (λ e. list-few 64 specCells spec (passed-list e)) (λ e. positionals-few 64 cells call (passed-call e)) (λ e. named-few 64 cells call (passed-call e))
+pub records-fit : (specCells spec cells call : List ℕ) → length (recordsText specCells spec cells call) ≤ 40960
+unfolding recordsText
+records-fit specCells spec cells call = collected-fits specCells spec cells call zeros
