@@ -1,25 +1,23 @@
 -- Records that pass their questions can be printed, and what is printed of them fits (01, sheets and the questions): a call that passes 9 to 13
--- (`positionals-printable`, `named-printable`), how many values it has (`positionals-few`, `named-few`), how many parameters a list
--- has (`list-few`), how long any outcome's text is (`output-fits`; `collected-fits` for what collection comes to), and that what
+-- (`positionals-printable`, `named-printable`), how many values it has (`positionals-few`, `named-few`), how long any outcome's text is (`output-fits`; `collected-fits` for what collection comes to), and that what
 -- collection answers is ready to be printed (`collected-ready`, `collected-room`). Assumes nothing.
 use mathlib.Core.Path.{_≡_, refl, sym, ap, _∙_}
 use mathlib.Core.Bool.{Bool, true, false, cond, not, _&&_, _||_}
-use mathlib.Core.List.{List, [], _∷_, _++_, map, append-assoc, append-nil}
-use Prim.Native.Nat.{ℕ, zero, suc, _+_, _*_, _≤_, _<_}
+use mathlib.Core.List.{List, [], _∷_, _++_, map}
+use Prim.Native.Nat.{ℕ, zero, suc, _+_, _*_, _≤_}
 use native.Mathlib.Omega.{arith}
 use lib.Dec.{eqb}
 use lib.ListN.{length, length-append, length-map, length-drop}
-use borrow.Author.Tests.{eqb-true, ltb-true}
+use borrow.Author.Tests.{eqb-true}
 use Rattle.rules.specs.Listing.{all, keep, mapFrom}
 use Rattle.rules.specs.Text.{isText, textIn}
 use Rattle.rules.specs.Value.{Value, callText, wellFormedDefault, wellFormedArgument, wellFormedName, wellFormedKey}
 use Rattle.rules.specs.Answer as rules
 use Rattle.rules.specs.Answer.{_then_}
 use Rattle.rules.specs.CallRecord.{Pair, CallRecord, Call, Named, Entry, Key, word, number, readHead, readCall, namedIn, keyIn, entryIn, starOf, itemsOf, doubleOf, entriesOf, wordOf, words, callIn, positionalsOf, namedOf}
-use Rattle.rules.specs.ParameterRecord.{Step, readParameters}
-use Rattle.rules.specs.Parameters.{Style, posOnly, Act, adds, slash, bareStar, unknownCode, act, mayStand, nextStyle, Parameter, positionalCount, added, addedFrom, parametersOf}
+use Rattle.rules.specs.Parameters.{Parameter, positionalCount}
 use Rattle.rules.specs.Lookup.{known}
-use Rattle.rules.specs.ParameterQuestions.{hasRoom, nameIsNew, askStep, askSteps, askParameters, listOf}
+use Rattle.rules.specs.ParameterQuestions.{askParameters, listOf}
 use Rattle.rules.specs.CallQuestions.{wellFormedPair, wellFormedEntry, partsWellFormed, askCall, askBoard}
 use Rattle.rules.specs.Binding.{askBinding}
 use Rattle.rules.specs.Placement as placement
@@ -30,8 +28,8 @@ use Rattle.rules.specs.SheetOutput.{line, slotLines, starLines, namedLines, acc
 use Rattle.rules.specs.SheetPrintable.{printable, printableText, printableNamed, printableParameter, AllPrintable, answerInside}
 use Rattle.rules.proofs.LawsListing.{and-left, and-right, and-both, all-append, all-drop, all-imp, all-map}
 use Rattle.rules.proofs.LawsText.{isText-weaker}
-use Rattle.rules.proofs.LawsAnswer.{then-left, then-right, ask-true}
-use Rattle.rules.proofs.LawsParameters.{steps-fine}
+use Rattle.rules.proofs.LawsAnswer.{then-left, then-right}
+use Rattle.rules.proofs.LawsPrinted.{list-few}
 use Rattle.rules.proofs.LawsDigits.{decimal-length}
 use Rattle.rules.proofs.LawsSheetOutput.{printableSlot, line-length, slotLines-length, starLines-length, namedLines-length, refusal-length, detail-length, all-keep, then-inside, binding-inside, parameters-inside, call-inside, board-inside, text-printable, parameters-printable}
 use Rattle.builder.specs.Build.{IsList}
@@ -166,34 +164,6 @@ module _ (B : ℕ) (cells call : List ℕ) (passes : askCall B cells call ≡ ru
         length-map (r .entries) (entryIn call),
         double-few (r .doubleKind) (map (entryIn call) (r .entries)),
       )
-
--- ---- how many parameters there are
-
-module _ (A : ℕ) (area : List ℕ) where
-  added-few : (s : Style) (before : List Parameter) (a : Act) (payload : ℕ) → hasRoom A before a ≡ true → length before ≤ A → length (before ++ added area s a payload) ≤ A
-  added-few s before (adds k) payload r h =
-      let l : length before < A = ltb-true (length before) A r in
-      simp length-append (omega arith)
-  added-few s before slash payload r h = rw (append-nil before) h
-  added-few s before bareStar payload r h = rw (append-nil before) h
-  added-few s before unknownCode payload r h = rw (append-nil before) h
-
-  steps-few : (s : Style) (before : List Parameter) (ts : List Step) → askSteps A area s before ts ≡ rules.fine → length before ≤ A → length (before ++ addedFrom area s ts) ≤ A
-  unfolding askStep
-  steps-few s before [] e h = rw (append-nil before) h
-  steps-few s before (t ∷ ts) e h =
-      let more : List Parameter = added area s (act t) (t .name) in
-      let fifth : rules.Answer = rules.ask 5 (mayStand s (act t)) in
-      let sixth : rules.Answer = rules.ask 6 (hasRoom A before (act t)) in
-      let seventh : rules.Answer = rules.ask 7 (nameIsNew area s before (act t) (t .name)) in
-      let rest : rules.Answer = askSteps A area (nextStyle s (act t)) (before ++ more) ts in
-      let room : hasRoom A before (act t) ≡ true = ask-true 6 (hasRoom A before (act t)) (then-left sixth seventh (then-right fifth (sixth then seventh) (then-left (fifth then sixth then seventh) rest e))) in
-      rw (← append-assoc before more (addedFrom area (nextStyle s (act t)) ts))
-      (steps-few (nextStyle s (act t)) (before ++ more) ts (then-right (fifth then sixth then seventh) rest e) (added-few s before (act t) (t .name) room h))
-
-pub list-few : (A : ℕ) (cells area : List ℕ) → askParameters A cells area ≡ rules.fine → length (listOf cells area) ≤ A
-unfolding listOf parametersOf
-list-few A cells area e = steps-few A area posOnly [] (readParameters cells .steps) (steps-fine A cells area e) (omega arith)
 
 -- ---- any outcome fits
 
