@@ -17,7 +17,7 @@ ghost use mathlib.Core.Path.{_≡_};
 ghost use lib.ListN.{length};
 
 // Room for the numbers of the input.
-const NUMBERS: usize = 262144;
+const NUMBERS: usize = 139264;
 
 // The sections of the input, by the numbers that a line of difference names them by.
 const CALLS: u64 = 4;
@@ -36,7 +36,7 @@ fn main() {
 
 // The `ensures` gives the length, which lending the array as a slice needs.
 fn room_for_numbers() -> [u64; NUMBERS]
-    ensures { λ r. ⌜ 262144 ≡ length r ⌝ }
+    ensures { λ r. ⌜ 139264 ≡ length r ⌝ }
 {
     [0; NUMBERS]
 }
