@@ -13,7 +13,7 @@ ghost use mathlib.Core.Path.{_≡_};
 ghost use lib.ListN.{length};
 
 // Room for the cases, and for an output with bytes to spare.
-const TEXT: usize = 163840;
+const TEXT: usize = 131072;
 
 const OUT: usize = 40970;
 
@@ -27,7 +27,7 @@ fn main() {
 
 // The `ensures` gives the length, which lending the array as a slice needs.
 fn room_for_text() -> [u8; TEXT]
-    ensures { λ r. ⌜ 163840 ≡ length r ⌝ }
+    ensures { λ r. ⌜ 131072 ≡ length r ⌝ }
 {
     [0; TEXT]
 }
