@@ -1,13 +1,16 @@
 -- Laws of an accessor's answer (01, accessors), in this order: an answer by what the questions answered, with its output; 9 to 14 as one
--- answer, put together and taken apart; 15 and 17 by the kinds in the head; and the answers of `len`. `h` is the head that was read.
+-- answer, put together and taken apart; 15 and 17 by the kinds in the head; the answers of `len`; and the answers that no
+-- name goes with. `h` is the head that was read.
 -- Assumes nothing.
 use mathlib.Core.Path.{_≡_, refl, sym, ap, subst, _∙_}
 use mathlib.Core.Bool.{not}
-use mathlib.Core.List.{List}
+use mathlib.Core.List.{List, [], _∷_}
 use Prim.Native.Nat.{ℕ, _+_, _≤_, _<_}
 use native.Mathlib.Omega.{arith}
 use borrow.Author.Tests.{eq-eqb, ne-eqb, le-leb, lt-leb, leb-true}
 use lib.Dec.{leb}
+use types.Run.{OneOf, miss}
+use denote.Enum.Declared.{tagOf}
 use lib.ListN.{length}
 use Rattle.rules.specs.Cells.{over}
 use Rattle.rules.specs.Answer.{Answer, fine, refuse, none, Detail, _then_, ask}
@@ -19,9 +22,10 @@ use Rattle.rules.specs.Collection.{callOf}
 use Rattle.rules.specs.Accessors.{denied, gives, accessOf, askWriting, len}
 use Rattle.rules.proofs.LawsAnswer.{then-left, then-right, ask-true}
 use Rattle.calls.proofs.LawsNamed.{passed-star, passed-double}
-use Rattle.accessors.specs.Answer.{accessIn, Accessing}
+use Rattle.accessors.specs.Answer.{accessIn, nameIn, Accessing}
 use Rattle.accessors.specs.declared.answer.Accessed.{Accessed}
-use Rattle.accessors.specs.declared.answer.Accessed.the-variants.{Answered}
+use Rattle.accessors.specs.declared.answer.Accessed.the-variants.{Answered, Record, ArgsArrayIsNotIterable, KwArgsIsNotDict, ArgsValueIsNotString, RepeatedArg, ExtraNamedArg, WrongNumberOfArgs}
+use Rattle.accessors.proofs.answer.Accessed.{the-type}
 
 -- ---- an answer, and the output
 
@@ -96,3 +100,19 @@ module _ (area cells : List ℕ) (h : Head) (read : h ≡ readHead cells) (passe
 pub len-refused : (cells area : List ℕ) (n : ℕ) → askCall 64 cells area ≡ refuse n none → denied n none ≡ len 64 cells area
 unfolding len
 len-refused cells area n e = rw e
+
+-- ---- the answers that no name goes with
+
+-- by their place in the enum
+abbrev pub withoutName : List ℕ
+withoutName = 0 ∷ 1 ∷ 2 ∷ 3 ∷ 4 ∷ 7 ∷ []
+
+pub nameless : (call : List ℕ) (r : Accessed) → OneOf withoutName (tagOf the-type r) → nameIn call r ≡ []
+nameless call (Answered k) h = refl
+nameless call (Record n) h = refl
+nameless call ArgsArrayIsNotIterable h = refl
+nameless call KwArgsIsNotDict h = refl
+nameless call ArgsValueIsNotString h = refl
+nameless call (RepeatedArg name) h = absurd (miss withoutName 5 tt h)
+nameless call (ExtraNamedArg n name) h = absurd (miss withoutName 6 tt h)
+nameless call (WrongNumberOfArgs least most got) h = refl

@@ -35,11 +35,11 @@ pub fn name_of<'a>(call: &'a [u8], answer: Accessed) -> &'a [u8]
         Accessed::ExtraNamedArg(count, name) => {
             answers::detail::name_of(call, call, Collected::ExtraNamedArg(count, name))
         }
-        Accessed::Answered(_) => &call[..0],
-        Accessed::Record(_) => &call[..0],
-        Accessed::ArgsArrayIsNotIterable => &call[..0],
-        Accessed::KwArgsIsNotDict => &call[..0],
-        Accessed::ArgsValueIsNotString => &call[..0],
-        Accessed::WrongNumberOfArgs(_, _, _) => &call[..0],
+        Accessed::Answered(_)
+        | Accessed::Record(_)
+        | Accessed::ArgsArrayIsNotIterable
+        | Accessed::KwArgsIsNotDict
+        | Accessed::ArgsValueIsNotString
+        | Accessed::WrongNumberOfArgs(_, _, _) => &call[..0],
     }
 }

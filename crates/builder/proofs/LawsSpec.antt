@@ -4,6 +4,8 @@ use mathlib.Core.Path.{_≡_, refl, sym, ap, subst, _∙_}
 use mathlib.Core.Bool.{true, false, cond, false≢true}
 use mathlib.Core.List.{List, [], _∷_, _++_, append-nil}
 use mathlib.Core.Option.{Option, none, some}
+use types.Run.{OneOf, miss}
+use denote.Enum.Declared.{tagOf}
 use Prim.Native.Nat.{ℕ, _+_, _<_, _≤_}
 use native.Mathlib.Nat.{zero-add}
 use native.Mathlib.Omega.{arith}
@@ -14,13 +16,14 @@ use Rattle.rules.specs.ParameterRecord.{Step as RecordStep}
 use Rattle.rules.specs.Parameters.{Style, posOnly, posOrNamed, namedOnly, noMore, ParameterKind, required, args, kwargs, adds, slash, bareStar, act, actOf, mayStand, nextStyle, Parameter, plain, takesPosition, comesBefore, positional, positionalOnly, isArgs, isKwargs, added, positionalOnlyCount, positionalCount, argsIndex, kwargsIndex}
 use Rattle.rules.specs.ParameterQuestions.{nameIsNew, askStep}
 use Rattle.builder.specs.declared.params.CurrentParameterStyle.{CurrentParameterStyle}
-use Rattle.builder.specs.declared.params.CurrentParameterStyle.the-variants.{PosOrNamed, NamedOnly, NoMore}
+use Rattle.builder.specs.declared.params.CurrentParameterStyle.the-variants.{PosOnly, PosOrNamed, NamedOnly, NoMore}
 use Rattle.builder.specs.declared.params.Step.{Step}
 use Rattle.builder.specs.declared.spec.Index.the-variants.{At, Absent}
 use Rattle.cells.specs.declared.answer.Answer.the-variants.{Fine, Refused}
 use Rattle.builder.specs.declared.spec.ParametersSpecBuilder.{ParametersSpecBuilder}
 use Rattle.builder.specs.Params.{styleOf, kindFor, stepOf, parametersIn, Pushed}
 use Rattle.builder.specs.Spec.{SoFar, Built, Stepping, refusedBy, underStyle, styleIn, listIn, indexOf}
+use Rattle.builder.proofs.params.CurrentParameterStyle.{the-type}
 use Rattle.cells.proofs.LawsListed.{length-listed, tally-snoc, first-snoc, orFirst}
 use Rattle.builder.proofs.LawsCodes.{code-8, mayStand-star}
 use Rattle.builder.proofs.LawsAsk.{askStep-5, askStep-slash, askStep-star, askStep-6, askStep-7, askStep-fine, mayStand-plain, nextStyle-plain, isArgs-plain, isKwargs-plain, act-code, act-plain, kind-plain}
@@ -327,3 +330,26 @@ module _ (area : List ℕ) (b : ParametersSpecBuilder) (s : Step) where
   refused-above l =
       stepping-5 area b (stepOf s)
       (rw (act-code s (s .code) refl, code-8 (s .code) (stepOf s .default) l))
+
+-- ---- what an arm for several styles says of the style
+
+pub under-first-three : (style : CurrentParameterStyle) → OneOf (0 ∷ 1 ∷ 2 ∷ []) (tagOf the-type style) → comesBefore (styleOf style) noMore ≡ true
+unfolding comesBefore
+under-first-three PosOnly h = refl
+under-first-three PosOrNamed h = refl
+under-first-three NamedOnly h = refl
+under-first-three NoMore h = absurd (miss (0 ∷ 1 ∷ 2 ∷ []) 3 tt h)
+
+pub under-first-two : (style : CurrentParameterStyle) → OneOf (0 ∷ 1 ∷ []) (tagOf the-type style) → comesBefore (styleOf style) namedOnly ≡ true
+unfolding comesBefore
+under-first-two PosOnly h = refl
+under-first-two PosOrNamed h = refl
+under-first-two NamedOnly h = absurd (miss (0 ∷ 1 ∷ []) 2 tt h)
+under-first-two NoMore h = absurd (miss (0 ∷ 1 ∷ []) 3 tt h)
+
+pub under-last-two : (style : CurrentParameterStyle) → OneOf (2 ∷ 3 ∷ []) (tagOf the-type style) → comesBefore (styleOf style) namedOnly ≡ false
+unfolding comesBefore
+under-last-two PosOnly h = absurd (miss (2 ∷ 3 ∷ []) 0 tt h)
+under-last-two PosOrNamed h = absurd (miss (2 ∷ 3 ∷ []) 1 tt h)
+under-last-two NamedOnly h = refl
+under-last-two NoMore h = refl

@@ -105,9 +105,9 @@ impl ParametersSpecBuilder {
         let code = s.code;
         match code {
             1..=3 => match style {
-                CurrentParameterStyle::PosOnly => self.add(area, s),
-                CurrentParameterStyle::PosOrNamed => self.add(area, s),
-                CurrentParameterStyle::NamedOnly => self.add(area, s),
+                CurrentParameterStyle::PosOnly
+                | CurrentParameterStyle::PosOrNamed
+                | CurrentParameterStyle::NamedOnly => self.add(area, s),
                 CurrentParameterStyle::NoMore => self.refused(5),
             },
             4 => match style {
@@ -117,15 +117,13 @@ impl ParametersSpecBuilder {
                 CurrentParameterStyle::NoMore => self.refused(5), // after `**kwargs`
             },
             5..=6 => match style {
-                CurrentParameterStyle::PosOnly => self.star(s),
-                CurrentParameterStyle::PosOrNamed => self.star(s),
-                CurrentParameterStyle::NamedOnly => self.refused(5),
-                CurrentParameterStyle::NoMore => self.refused(5),
+                CurrentParameterStyle::PosOnly | CurrentParameterStyle::PosOrNamed => self.star(s),
+                CurrentParameterStyle::NamedOnly | CurrentParameterStyle::NoMore => self.refused(5),
             },
             7 => match style {
-                CurrentParameterStyle::PosOnly => self.kwargs(s),
-                CurrentParameterStyle::PosOrNamed => self.kwargs(s),
-                CurrentParameterStyle::NamedOnly => self.kwargs(s),
+                CurrentParameterStyle::PosOnly
+                | CurrentParameterStyle::PosOrNamed
+                | CurrentParameterStyle::NamedOnly => self.kwargs(s),
                 CurrentParameterStyle::NoMore => self.refused(5),
             },
             _ => self.refused(5),

@@ -56,7 +56,7 @@ pub data Seen (area : List ℕ) (v : Value) : Type 0 where
       → partAt area (v .payload) ≡ bytesAt area (v .payload) → Seen area v
   as-number : readKey area (v .kind) (v .payload) ≡ Number (toZ w64 (v .payload)) → keyIn area v ≡ number (v .payload) → Seen area v
 
-key-text : (area : List ℕ) (v : Value) → eqb (v .kind) callText ≡ true → wellFormedKey area v ≡ true → isText 0 area (v .payload) ≡ true
+pub key-text : (area : List ℕ) (v : Value) → eqb (v .kind) callText ≡ true → wellFormedKey area v ≡ true → isText 0 area (v .payload) ≡ true
 unfolding wellFormedKey callText
 key-text area v q e = rw (eqb-true (v .kind) 6 q) at e
 

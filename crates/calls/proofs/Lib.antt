@@ -3,5 +3,6 @@ pub mod LawsEach
 pub mod LawsCall
 pub mod LawsForm
 pub mod LawsKeys
+pub mod LawsSlots
 pub mod LawsPlaces
 pub mod LawsNamed

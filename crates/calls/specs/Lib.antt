@@ -3,5 +3,6 @@ pub mod Head
 pub mod Places
 pub mod Runs
 pub mod Keys
+pub mod Slots
 pub mod Values
 pub mod Named

@@ -3,13 +3,18 @@
 // bytes of a text are all there to be compared.
 // Reworked from starlark 0.14.2, src/eval/runtime/arguments.rs, Apache-2.0.
 use crate::head::PAIR;
+use crate::slot::SLOTS;
+use crate::slot::key_slot;
+use crate::slot::name_slot;
 use cells::record::key_at;
 use cells::record::pair_at;
 use cells::text::part;
 use cells::text::same;
 use cells::value::ReadKey;
 ghost use mathlib.Core.Path.{_≡_};
-ghost use mathlib.Core.Bool.{true, not};
+ghost use mathlib.Core.Bool.{true, false, not};
+ghost use lib.Dec.{eqb};
+ghost use Prim.Native.Nat.{_+_};
 ghost use Rattle.rules.specs.Text.{sameBytes, among, differ};
 ghost use Rattle.rules.specs.Value.{wellFormedName, wellFormedKey};
 ghost use Rattle.rules.specs.CallQuestions.{wellFormedPair, wellFormedEntry, sameKey, keysDiffer};
@@ -17,20 +22,37 @@ ghost use Rattle.cells.specs.Record.{pairAt};
 ghost use Rattle.calls.specs.Runs.{Formed, keyThere, keysAt, newKey, nameThere, namesAt};
 ghost use Rattle.calls.specs.Keys.{sameRead};
 
-// 12, of the `count` entries from `from` on. Each key is held against those behind it.
+// 12, of the `count` entries from `from` on. The keys are taken from the last one back, with a mark at the slot of each: one whose slot
+// has no mark is none of those behind it. Fewer than two need no marks.
 pub(crate) fn keys_differ(cells: &[u64], area: &[u8], from: usize, count: usize) -> bool
     requires { ⌜ Formed (wellFormedEntry (now area)) (now cells) from count ⌝ }
     ensures { λ r. ⌜ r ≡ keysDiffer (keysAt (now (area .entry)) (now (cells .entry)) from count) ⌝ }
 {
-    let mut at = from;
+    if count < 2 {
+        return true;
+    }
+    let mut marks: [u8; SLOTS] = [0; SLOTS];
     let mut left = count;
     while 0 < left {
-        let next = at + PAIR;
+        let behind = count - left;
         left -= 1;
-        if !key_new(cells, area, at, next, left) {
+        let at = from + PAIR * left;
+        let slot = key_slot(cells, area, at);
+        if !key_apart(cells, area, at, behind, marks[slot]) {
             return false;
         }
-        at = next;
+        marks[slot] = 1;
+    }
+    true
+}
+
+// Is the key at `key` none of those of the `count` entries right behind it? Only where its slot has a mark are they looked at.
+fn key_apart(cells: &[u64], area: &[u8], key: usize, count: usize, mark: u8) -> bool
+    requires { ⌜ (wellFormedKey (now area) (pairAt (now cells) key) ≡ true) × Formed (wellFormedEntry (now area)) (now cells) (key + 4) count × (eqb mark 1 ≡ false → newKey (keyThere (now area) (now cells) key) (keysAt (now area) (now cells) (key + 4) count) ≡ true) ⌝ }
+    ensures { λ r. ⌜ r ≡ newKey (keyThere (now (area .entry)) (now (cells .entry)) key) (keysAt (now (area .entry)) (now (cells .entry)) (key + 4) count) ⌝ }
+{
+    if mark == 1 {
+        return key_new(cells, area, key, key + PAIR, count);
     }
     true
 }
@@ -79,20 +101,36 @@ fn same_read(area: &[u8], a: ReadKey, b: ReadKey) -> bool
     }
 }
 
-// 13, of the `count` written pairs from `from` on. The Rust puts the names into a set; a plain search takes its place.
+// 13, of the `count` written pairs from `from` on, as 12. The Rust puts the names into a set; the marks and a plain search take its place.
 pub(crate) fn names_differ(cells: &[u64], area: &[u8], from: usize, count: usize) -> bool
     requires { ⌜ Formed (wellFormedPair (now area)) (now cells) from count ⌝ }
     ensures { λ r. ⌜ r ≡ differ (namesAt (now (area .entry)) (now (cells .entry)) from count) ⌝ }
 {
-    let mut at = from;
+    if count < 2 {
+        return true;
+    }
+    let mut marks: [u8; SLOTS] = [0; SLOTS];
     let mut left = count;
     while 0 < left {
-        let next = at + PAIR;
+        let behind = count - left;
         left -= 1;
-        if !name_new(cells, area, at, next, left) {
+        let at = from + PAIR * left;
+        let slot = name_slot(cells, area, at);
+        if !name_apart(cells, area, at, behind, marks[slot]) {
             return false;
         }
-        at = next;
+        marks[slot] = 1;
+    }
+    true
+}
+
+// Is the name at `name` none of those of the `count` written pairs right behind it? Only where its slot has a mark are they looked at.
+fn name_apart(cells: &[u64], area: &[u8], name: usize, count: usize, mark: u8) -> bool
+    requires { ⌜ (wellFormedName (now area) (pairAt (now cells) name) ≡ true) × Formed (wellFormedPair (now area)) (now cells) (name + 4) count × (eqb mark 1 ≡ false → not (among (nameThere (now area) (now cells) name) (namesAt (now area) (now cells) (name + 4) count)) ≡ true) ⌝ }
+    ensures { λ r. ⌜ r ≡ not (among (nameThere (now (area .entry)) (now (cells .entry)) name) (namesAt (now (area .entry)) (now (cells .entry)) (name + 4) count)) ⌝ }
+{
+    if mark == 1 {
+        return name_new(cells, area, name, name + PAIR, count);
     }
     true
 }

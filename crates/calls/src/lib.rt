@@ -17,6 +17,7 @@ pub mod differ;
 pub mod form;
 pub mod head;
 pub mod place;
+pub mod slot;
 pub mod values;
 
 // Questions 9 to 11, which can-fill asks too.

@@ -1,7 +1,8 @@
--- A text of the code (01, texts), and what reading one answers.
+-- A text of the code (01, texts), what reading one answers, and the key of a text.
 use mathlib.Core.Bool.{cond}
-use mathlib.Core.List.{List, []}
-use Prim.Native.Nat.{ℕ}
+use mathlib.Core.List.{List, [], _∷_}
+use Prim.Native.Nat.{ℕ, _+_, _*_}
+use lib.ListN.{take}
 use Rattle.rules.specs.Text.{startOf, sizeOf, isText, inside, bytesAt}
 use Rattle.cells.specs.declared.text.Text.{Text}
 use Rattle.cells.specs.declared.text.ReadText.{ReadText}
@@ -18,3 +19,11 @@ readText least area payload = cond (isText least area payload) (Is (textOf paylo
 -- the bytes of a payload that lies inside the area, none of any other
 unfoldable pub partAt : List ℕ → ℕ → List ℕ
 partAt area payload = cond (inside area payload) (bytesAt area payload) []
+
+-- the first eight bytes of a text as one number, most significant first: texts that differ here need not be compared byte by byte
+abbrev pub keyFrom : ℕ → List ℕ → ℕ
+keyFrom k [] = k
+keyFrom k (b ∷ bs) = keyFrom (k * 256 + b) bs
+
+unfoldable pub keyOf : List ℕ → ℕ
+keyOf bytes = keyFrom 0 (take 8 bytes)

@@ -1,7 +1,7 @@
 // Texts: a run of bytes in a lent area (01, cells, texts and records).
 ghost use mathlib.Core.Path.{_≡_};
 ghost use Rattle.rules.specs.Text.{payloadOf, sameBytes};
-ghost use Rattle.cells.specs.Text.{readText, partAt};
+ghost use Rattle.cells.specs.Text.{readText, partAt, keyOf};
 
 // Where a text starts in its area, and how many bytes it has: the two halves of a payload. Both always fit a payload.
 pub struct Text {
@@ -77,4 +77,20 @@ pub fn same(a: &[u8], b: &[u8]) -> bool
         i += 1;
     }
     true
+}
+
+// The first bytes of a text as one number, so that most texts that differ are told apart by one comparison.
+pub fn key_of(bytes: &[u8]) -> u64
+    ensures { λ r. ⌜ r ≡ keyOf (now (bytes .entry)) ⌝ }
+{
+    let mut key: u64 = 0;
+    let mut i = 0;
+    while i < bytes.len() {
+        if i == 8 {
+            return key;
+        }
+        key = key * 256 + (bytes[i] as u64);
+        i += 1;
+    }
+    key
 }

@@ -29,17 +29,19 @@ fn room_for_numbers() -> [u64; NUMBERS]
     [0; NUMBERS]
 }
 
-// The four sections of the input, in its order.
+// The five sections of the input, in its order.
 fn replay(numbers: &[u64]) {
     let mut at = 0;
     let examples = section(numbers, &mut at, 0);
     let limits = section(numbers, &mut at, 1);
     let records = section(numbers, &mut at, 2);
     let families = section(numbers, &mut at, 3);
+    let oracle = section(numbers, &mut at, 4);
     summary(b"examples: ", examples);
     summary(b"limits: ", limits);
     summary(b"records: ", records);
     summary(b"families: ", families);
+    summary(b"answers of the published Rust: ", oracle);
     line(b"cuts in families: ", families.cuts);
     line(
         b"families refused by 16 at some cuts and by 19 at others: ",

@@ -26,7 +26,7 @@ use Rattle.lookup.specs.Lookup.{findingOf}
 use Rattle.cells.specs.Text.{partAt}
 use Rattle.cells.specs.Record.{pairAt}
 use Rattle.findings.specs.Resolved.{namedAt}
-use Rattle.findings.specs.Resolve.{foundAt, Below}
+use Rattle.findings.specs.Resolve.{foundIn, foundAt, Below}
 use Rattle.collector.specs.CanFill.{isThere, bytesFrom, writtenIn, freeFor, namedAfter, FillReady, NamesReady, NamesFilled}
 use Rattle.findings.specs.Found.{firstMissing}
 use Rattle.findings.proofs.LawsEntries.{findIn-below}
@@ -37,7 +37,7 @@ use Rattle.collector.proofs.LawsFilling.{or-true, Counted, counted-none
 -- ---- the written names, one by one
 
 pub found-below : (spec : List ℕ) (l : ParametersSpec) (area cells : List ℕ) (pair : ℕ) → Below 64 (foundAt spec l area cells pair)
-unfolding foundAt
+unfolding foundIn
 found-below spec l area cells pair = findIn-below spec (l .params .codes) (l .params .styles) (l .params .names) (l .params .len) (partAt area (pairAt cells pair .payload))
 
 module _ (spec : List ℕ) (l : ParametersSpec) (cells area : List ℕ) (h : Head) (next : ℕ) (named₀ : List ℕ) (ready : NamesReady spec l cells area h next named₀) where

@@ -87,13 +87,23 @@ fn fill_names(
     requires { ⌜ NamesReady (now spec) list (now cells) (now area) (headOf h) next (now named) ⌝ }
     ensures { λ r. ⌜ NamesFilled (parametersIn (now (spec .entry)) (list .params)) (h .p) (writtenIn (now (area .entry)) (now (cells .entry)) (headOf h)) (now (named .exit)) r ⌝ }
 {
+    let params = list.params;
     let from = named_from(h);
     let indices = list.indices;
     let at = indices.kwargs;
     let kwargs = is_there(at);
     let mut k = 0;
     while k < h.n {
-        let found = found_at(list, spec, cells, area, from + PAIR * k);
+        let found = found_at(
+            spec,
+            &params.codes,
+            &params.styles,
+            &params.names,
+            params.len,
+            cells,
+            area,
+            from + PAIR * k,
+        );
         if !fill(found, kwargs, next, named) {
             return false;
         }

@@ -37,7 +37,7 @@ use Rattle.answers.specs.Answer.{placeOf}
 use Rattle.calls.proofs.LawsNamed.{key-inside}
 use Rattle.findings.specs.Resolved.{sourceValue, Resolved}
 use Rattle.findings.specs.Resolve.{Prepared}
-use Rattle.findings.specs.Entries.{heldNames, takenBy, freeOr, enteredBy, wordAt, enteredAt, entryAnswer}
+use Rattle.findings.specs.Entries.{heldNames, takenBy, freeOr, enteredBy, wordIn, wordAt, enteredIn, enteredAt, entryAnswer}
 use Rattle.findings.specs.declared.entries.Entered.the-variants.{Free, NotText}
 use Rattle.findings.proofs.LawsResolved.{known-at, source-among}
 use Rattle.findings.proofs.LawsNames.{anyParameter}
@@ -77,7 +77,7 @@ module _ (spec : List ℕ) (l : ParametersSpec) (cells area : List ℕ) (list : 
 
   -- the answer of the code for a key by its kind
   entered-kind : enteredAt spec l area cells pair next sources rest count ≡ cond (eqb (pairAt cells pair .kind) callText) (wordAt spec l area cells next sources rest count (pairAt cells pair .payload)) NotText
-  unfolding enteredAt keyAt readKey textOf
+  unfolding enteredIn keyAt readKey textOf
   entered-kind =
       ap (λ b. enteredBy (cond b (cond (eqb (pairAt cells pair .kind) callText) (Word (textOf (pairAt cells pair .payload))) (Number (toZ w64 (pairAt cells pair .payload)))) Not) (wordAt spec l area cells next sources rest count)) formed
       ∙ go (eqb (pairAt cells pair .kind) callText)
@@ -97,7 +97,7 @@ module _ (spec : List ℕ) (l : ParametersSpec) (cells area : List ℕ) (list : 
 
     word-is : wordAt spec l area cells next sources rest count (pairAt cells pair .payload)
         ≡ freeOr (namesFilled P 0 qs (bytesAt area (pairAt cells pair .payload)) || among (bytesAt area (pairAt cells pair .payload)) (textsOf N)) (pairAt cells pair .payload) found
-    unfolding wordAt
+    unfolding wordIn
     word-is =
         ap (λ b. freeOr (takenBy (findIn spec (l .params .codes) (l .params .styles) (l .params .names) (l .params .len) b) next sources (heldNames area cells rest count) b) (pairAt cells pair .payload) (findIn spec (l .params .codes) (l .params .styles) (l .params .names) (l .params .len) b)) part-text
         ∙ ap (λ b. freeOr b (pairAt cells pair .payload) found) (taken-is qs cells area P N sources rest count next (bytesAt area (pairAt cells pair .payload)) (list .first) (list .apart) upto r found found-text)

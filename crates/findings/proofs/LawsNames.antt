@@ -24,7 +24,7 @@ use Rattle.cells.proofs.LawsListed.{length-listed, listed-next, listed-more}
 use Rattle.lookup.specs.Lookup.{findIn, findingOf}
 use Rattle.lookup.proofs.LawsBuilt.{lookup-columns}
 use Rattle.findings.specs.Resolved.{namedAt, Resolved}
-use Rattle.findings.specs.Resolve.{foundAt, Below, sourcesAfter, restAfter, countAfter, pairsFrom, Prepared, Naming}
+use Rattle.findings.specs.Resolve.{foundIn, foundAt, Below, sourcesAfter, restAfter, countAfter, pairsFrom, Prepared, Naming}
 use Rattle.findings.proofs.LawsResolved.{entered, entered-below}
 
 -- a parameter to read past the end of a list
@@ -52,7 +52,7 @@ module _ (spec : List ℕ) (l : ParametersSpec) (cells area : List ℕ) (list : 
   few-list = omega (arith, length-list, list .is-list .room)
 
   pub found-is : (pair : ℕ) → inside area (pairAt cells pair .payload) ≡ true → findingOf (foundAt spec l area cells pair) ≡ find (parametersIn spec (l .params)) (namedAt area cells pair .name .bytes)
-  unfolding foundAt partAt namedAt namedIn textIn readPair pairAt
+  unfolding foundIn partAt namedAt namedIn textIn readPair pairAt
   found-is pair e =
       ap (λ b. findingOf (findIn spec (l .params .codes) (l .params .styles) (l .params .names) (l .params .len) (cond b (bytesAt area (pairAt cells pair .payload)) []))) e
       ∙ lookup-columns spec (bytesAt area (pairAt cells pair .payload)) (l .params) (list .is-list .room) (list .inside)

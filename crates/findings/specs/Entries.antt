@@ -45,14 +45,24 @@ enteredBy (Word t) word = word (payloadOf (t .start) (t .len))
 enteredBy (Number z) word = NotText
 enteredBy Not word = NotText
 
--- 19 of an entry whose key is the text of a payload
-unfoldable pub wordAt : List ℕ → ParametersSpec → List ℕ → List ℕ → ℕ → List ℕ → List ℕ → ℕ → ℕ → Entered
-wordAt spec l area cells next sources rest count payload =
-    let f : Finding = findIn spec (l .params .codes) (l .params .styles) (l .params .names) (l .params .len) (partAt area payload) in
+-- 19 of an entry whose key is the text of a payload, by the columns and by the list
+unfoldable pub wordIn : List ℕ → List ℕ → List ℕ → List ℕ → ℕ → List ℕ → List ℕ → ℕ → List ℕ → List ℕ → ℕ → ℕ → Entered
+wordIn spec codes styles names len area cells next sources rest count payload =
+    let f : Finding = findIn spec codes styles names len (partAt area payload) in
     freeOr (takenBy f next sources (heldNames area cells rest count) (partAt area payload)) payload f
 
-unfoldable pub enteredAt : List ℕ → ParametersSpec → List ℕ → List ℕ → ℕ → ℕ → List ℕ → List ℕ → ℕ → Entered
-enteredAt spec l area cells pair next sources rest count = enteredBy (keyAt area cells pair) (wordAt spec l area cells next sources rest count)
+abbrev pub wordAt : List ℕ → ParametersSpec → List ℕ → List ℕ → ℕ → List ℕ → List ℕ → ℕ → ℕ → Entered
+wordAt spec l area cells next sources rest count payload =
+    wordIn spec (l .params .codes) (l .params .styles) (l .params .names) (l .params .len) area cells next sources rest count payload
+
+-- 18 and 19 of the entry at a cell, likewise
+unfoldable pub enteredIn : List ℕ → List ℕ → List ℕ → List ℕ → ℕ → List ℕ → List ℕ → ℕ → ℕ → List ℕ → List ℕ → ℕ → Entered
+enteredIn spec codes styles names len area cells pair next sources rest count =
+    enteredBy (keyAt area cells pair) (wordIn spec codes styles names len area cells next sources rest count)
+
+abbrev pub enteredAt : List ℕ → ParametersSpec → List ℕ → List ℕ → ℕ → ℕ → List ℕ → List ℕ → ℕ → Entered
+enteredAt spec l area cells pair next sources rest count =
+    enteredIn spec (l .params .codes) (l .params .styles) (l .params .names) (l .params .len) area cells pair next sources rest count
 
 -- 01's number and detail for the answer of an entry
 abbrev pub entryAnswer : Entered → Answer

@@ -20,9 +20,13 @@ use Rattle.lookup.specs.declared.Finding.the-variants.{At, Unknown}
 use Rattle.lookup.specs.Lookup.{findIn}
 use Rattle.findings.specs.Resolved.{namedAt, NamedPair, Resolved}
 
-unfoldable pub foundAt : List ℕ → ParametersSpec → List ℕ → List ℕ → ℕ → Finding
-foundAt spec l area cells pair =
-    findIn spec (l .params .codes) (l .params .styles) (l .params .names) (l .params .len) (partAt area (pairAt cells pair .payload))
+-- the parameter that the pair at a cell names, by the columns
+unfoldable pub foundIn : List ℕ → List ℕ → List ℕ → List ℕ → ℕ → List ℕ → List ℕ → ℕ → Finding
+foundIn spec codes styles names len area cells pair = findIn spec codes styles names len (partAt area (pairAt cells pair .payload))
+
+-- the same by the list
+abbrev pub foundAt : List ℕ → ParametersSpec → List ℕ → List ℕ → ℕ → Finding
+foundAt spec l area cells pair = foundIn spec (l .params .codes) (l .params .styles) (l .params .names) (l .params .len) area cells pair
 
 -- an index that is found is below n
 abbrev pub Below : ℕ → Finding → Type 0

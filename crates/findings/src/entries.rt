@@ -2,6 +2,7 @@
 // written names. Reworked from starlark 0.14.2, src/eval/runtime/params/spec.rs (collect_slow), Apache-2.0.
 use crate::resolve::NAMED;
 use crate::resolve::enter;
+use builder::params::CAPACITY;
 use builder::spec::ParametersSpec;
 use calls::head::Head;
 use calls::head::PAIR;
@@ -12,12 +13,12 @@ use cells::text::part;
 use cells::text::same;
 use cells::value::ReadKey;
 use lookup::Finding;
-use lookup::get_str;
+use lookup::find;
 ghost use mathlib.Core.Path.{_≡_};
 ghost use Rattle.rules.specs.Text.{among};
 ghost use Rattle.rules.specs.Binding.{textsOf};
 ghost use Rattle.findings.specs.Resolve.{Below};
-ghost use Rattle.findings.specs.Entries.{Held, heldNames, takenBy, wordAt, enteredAt};
+ghost use Rattle.findings.specs.Entries.{Held, heldNames, takenBy, wordIn, enteredIn};
 ghost use Rattle.findings.specs.EntriesDone.{EntriesReady, EntriesDone};
 ghost use Rattle.calls.specs.Head.{headOf};
 
@@ -45,12 +46,26 @@ pub fn resolve_entries(
     requires { ⌜ EntriesReady (now spec) list (now cells) (now area) (headOf h) next (now sources) (now rest) before ⌝ }
     ensures { λ r. ⌜ EntriesDone (now (spec .entry)) list (now (cells .entry)) (now (area .entry)) (headOf h) next (now (sources .exit)) (now (rest .exit)) r ⌝ }
 {
+    let params = list.params;
     let from = entries_from(h);
     let mut count = before;
     let mut k = 0;
     while k < h.d {
         let pair = from + PAIR * k;
-        let entered = entry_at(list, spec, cells, area, pair, next, sources, rest, count);
+        let entered = entry_at(
+            spec,
+            &params.codes,
+            &params.styles,
+            &params.names,
+            params.len,
+            cells,
+            area,
+            pair,
+            next,
+            sources,
+            rest,
+            count,
+        );
         match entered {
             Entered::NotText => {
                 return Entries::NotText;
@@ -77,9 +92,12 @@ pub enum Entered {
 }
 
 // 18 and 19 of the entry at a cell.
-pub fn entry_at(
-    list: ParametersSpec,
-    spec: &[u8],
+pub fn entry_at<'a>(
+    spec: &'a [u8],
+    codes: &'a [u64; CAPACITY],
+    styles: &'a [u64; CAPACITY],
+    names: &'a [u64; CAPACITY],
+    len: usize,
     cells: &[u64],
     area: &[u8],
     pair: usize,
@@ -89,12 +107,15 @@ pub fn entry_at(
     count: usize,
 ) -> Entered
     requires { ⌜ Held (now area) (now cells) (now rest) count ⌝ }
-    ensures { λ r. ⌜ r ≡ enteredAt (now (spec .entry)) list (now (area .entry)) (now (cells .entry)) pair next (now (sources .entry)) (now (rest .entry)) count ⌝ }
+    ensures { λ r. ⌜ r ≡ enteredIn (now (spec .entry)) (now (codes .entry)) (now (styles .entry)) (now (names .entry)) len (now (area .entry)) (now (cells .entry)) pair next (now (sources .entry)) (now (rest .entry)) count ⌝ }
 {
     match key_at(area, cells, pair) {
         ReadKey::Word(t) => word_at(
-            list,
             spec,
+            codes,
+            styles,
+            names,
+            len,
             cells,
             area,
             t.payload(),
@@ -109,9 +130,12 @@ pub fn entry_at(
 }
 
 // 19 of an entry whose key is the text of this payload.
-fn word_at(
-    list: ParametersSpec,
-    spec: &[u8],
+fn word_at<'a>(
+    spec: &'a [u8],
+    codes: &'a [u64; CAPACITY],
+    styles: &'a [u64; CAPACITY],
+    names: &'a [u64; CAPACITY],
+    len: usize,
     cells: &[u64],
     area: &[u8],
     payload: u64,
@@ -121,10 +145,10 @@ fn word_at(
     count: usize,
 ) -> Entered
     requires { ⌜ Held (now area) (now cells) (now rest) count ⌝ }
-    ensures { λ r. ⌜ r ≡ wordAt (now (spec .entry)) list (now (area .entry)) (now (cells .entry)) next (now (sources .entry)) (now (rest .entry)) count payload ⌝ }
+    ensures { λ r. ⌜ r ≡ wordIn (now (spec .entry)) (now (codes .entry)) (now (styles .entry)) (now (names .entry)) len (now (area .entry)) (now (cells .entry)) next (now (sources .entry)) (now (rest .entry)) count payload ⌝ }
 {
     let name = part(area, payload);
-    let found = get_str(list, spec, name);
+    let found = find(spec, codes, styles, names, len, name);
     if is_taken(found, cells, area, next, sources, rest, count, name) {
         return Entered::Repeated(payload);
     }

@@ -1,32 +1,36 @@
 // Each name of a call resolved once (01, collector): for each parameter the cell of the value that a name gives it, and the pairs that
 // name no parameter, in their order. 16, 19, 24 and placement work on these findings.
 // Reworked from starlark 0.14.2, src/eval/runtime/params/spec.rs (collect_slow), Apache-2.0.
+use builder::params::CAPACITY;
 use builder::spec::ParametersSpec;
 use cells::record::pair_at;
 use cells::text::part;
 use lookup::Finding;
-use lookup::get_str;
+use lookup::find;
 ghost use mathlib.Core.Path.{_≡_};
 ghost use Prim.Native.Nat.{_+_, _*_, _<_, _≤_, _^_};
-ghost use Rattle.findings.specs.Resolve.{Below, foundAt, sourcesAfter, restAfter, countAfter, pairsFrom, Naming};
+ghost use Rattle.findings.specs.Resolve.{Below, foundIn, sourcesAfter, restAfter, countAfter, pairsFrom, Naming};
 ghost use Rattle.findings.specs.Resolved.{Resolved};
 ghost use Rattle.builder.specs.Params.{parametersIn};
 
 // The pairs of N, at most 64 written and 64 entries.
 pub const NAMED: usize = 128;
 
-// The parameter that the pair at a cell names.
-pub fn found_at(
-    list: ParametersSpec,
-    spec: &[u8],
+// The parameter that the pair at a cell names, by the list's columns, lent: none of them is copied for a name.
+pub fn found_at<'a>(
+    spec: &'a [u8],
+    codes: &'a [u64; CAPACITY],
+    styles: &'a [u64; CAPACITY],
+    names: &'a [u64; CAPACITY],
+    len: usize,
     cells: &[u64],
     area: &[u8],
     pair: usize,
 ) -> Finding
-    ensures { λ r. ⌜ r ≡ foundAt (now (spec .entry)) list (now (area .entry)) (now (cells .entry)) pair ⌝ }
+    ensures { λ r. ⌜ r ≡ foundIn (now (spec .entry)) (now (codes .entry)) (now (styles .entry)) (now (names .entry)) len (now (area .entry)) (now (cells .entry)) pair ⌝ }
 {
     let key = pair_at(cells, pair);
-    get_str(list, spec, part(area, key.payload))
+    find(spec, codes, styles, names, len, part(area, key.payload))
 }
 
 // The pair's value fills the slot that is found, or the pair joins the remainder. How many pairs the remainder then has.
@@ -68,11 +72,21 @@ pub fn resolve_names(
     requires { ⌜ Naming (now spec) list (now cells) (now area) from n (now sources) (now rest) ⌝ }
     ensures { λ r. ⌜ Resolved (parametersIn (now (spec .entry)) (list .params)) (now (cells .entry)) (now (area .entry)) (pairsFrom (now (area .entry)) (now (cells .entry)) from n) (now (sources .exit)) (now (rest .exit)) r ⌝ }
 {
+    let params = list.params;
     let mut count = 0;
     let mut k = 0;
     while k < n {
         let pair = from + 4 * k;
-        let found = found_at(list, spec, cells, area, pair);
+        let found = found_at(
+            spec,
+            &params.codes,
+            &params.styles,
+            &params.names,
+            params.len,
+            cells,
+            area,
+            pair,
+        );
         count = enter(found, pair, sources, rest, count);
         k += 1;
     }

@@ -1,7 +1,7 @@
 -- Laws of a search for a name, in this order: the first index that passes a test, as a loop asks for it; what each test on a candidate
 -- says; the bytes left to compare. Assumes nothing.
-use mathlib.Core.Path.{_≡_, sym, _∙_}
-use mathlib.Core.Bool.{Bool, true, false, and-false}
+use mathlib.Core.Path.{_≡_, refl, sym, _∙_}
+use mathlib.Core.Bool.{Bool, true, false, _&&_, and-false}
 use mathlib.Core.List.{List}
 use Prim.Native.Nat.{ℕ, suc, _+_, _-_, _/_, _%_, _<_, _≤_}
 use native.Mathlib.Numerals.{add-one}
@@ -9,8 +9,9 @@ use native.Mathlib.Omega.{arith}
 use lib.Dec.{leb}
 use lib.ListN.{length, take, drop, getD, length-drop, drop-of-length-le}
 use lib.Seq.{length-take-le, getD-take, getD-drop}
-use borrow.Author.Tests.{le-leb, lt-leb}
+use borrow.Author.Tests.{leb-true, le-leb, lt-leb}
 use Rattle.rules.specs.Text.{sameBytes, bytesAt, inside, startOf, sizeOf}
+use Rattle.rules.proofs.LawsListing.{and-right}
 use Rattle.cells.proofs.LawsText.{sameBytes-length, sameBytes-differs, sameBytes-next}
 use Rattle.builder.specs.Params.{mayBeNamed}
 use Rattle.lookup.specs.declared.Finding.the-variants.{At, Unknown}
@@ -48,6 +49,10 @@ module _ (area : List ℕ) (name : ℕ) where
   unfolding inside startOf sizeOf
   outside-end h = rw (lt-leb (name / 256 + name % 256) (length area) h) (and-false (leb (name / 256) 65535))
 
+  inside-end : inside area name ≡ true → name / 256 + name % 256 ≤ length area
+  unfolding inside startOf sizeOf
+  inside-end e = leb-true (name / 256 + name % 256) (length area) (and-right (leb (name / 256) 65535) (leb (name / 256 + name % 256) (length area)) e)
+
   inside-both : name / 256 ≤ 65535 → name / 256 + name % 256 ≤ length area → inside area name ≡ true
   unfolding inside startOf sizeOf
   inside-both s e = rw (le-leb (name / 256) 65535 s, le-leb (name / 256 + name % 256) (length area) e)
@@ -67,16 +72,22 @@ module _ (area bytes : List ℕ) (code style name : ℕ) where
   pub fits-end : length area < name / 256 + name % 256 → fits area bytes code style name ≡ false
   fits-end h = fits-outside (outside-end area name h)
 
+  -- a name of another length is not the candidate's, wherever that lies
+  pub fits-size : (length bytes ≡ name % 256 → ⊥) → fits area bytes code style name ≡ false
+  unfolding fits bytesAt startOf sizeOf
+  fits-size n = go (inside area name) refl
+    where
+      go : (b : Bool) → inside area name ≡ b → mayBeNamed code style && (b && sameBytes bytes (take (name % 256) (drop (name / 256) area))) ≡ false
+      go false e = and-false (mayBeNamed code style)
+      go true e =
+          rw (sameBytes-length bytes (take (name % 256) (drop (name / 256) area)) (λ l. n (l ∙ length-part area (name / 256) (name % 256) (inside-end area name e))))
+          (and-false (mayBeNamed code style))
+
   -- a nameable candidate whose name lies inside the area is judged by its bytes
   module _ (m : mayBeNamed code style ≡ true) (s : name / 256 ≤ 65535) (e : name / 256 + name % 256 ≤ length area) where
     pub fits-bytes : fits area bytes code style name ≡ sameBytes bytes (take (name % 256) (drop (name / 256) area))
     unfolding fits bytesAt startOf sizeOf
     fits-bytes = rw (m, inside-both area name s e)
-
-    pub fits-size : (length bytes ≡ name % 256 → ⊥) → fits area bytes code style name ≡ false
-    fits-size n =
-        fits-bytes
-        ∙ sameBytes-length bytes (take (name % 256) (drop (name / 256) area)) (λ l. n (l ∙ length-part area (name / 256) (name % 256) e))
 
 -- ---- the bytes of a candidate, from byte j on
 

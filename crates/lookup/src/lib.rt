@@ -27,8 +27,8 @@ pub fn get_str(list: ParametersSpec, area: &[u8], name: &[u8]) -> Finding
     )
 }
 
-// The same over the columns, lent, so that a caller who asks for many names copies no list. The first byte that differs ends a candidate;
-// one whose name does not lie inside the area fits nothing.
+// The same over the columns, lent, so that a caller who asks for many names copies no list. A length that differs drops most candidates,
+// and of the others the first byte that differs; one whose name does not lie inside the area fits nothing.
 pub fn find<'a, 'b>(
     area: &'a [u8],
     codes: &'a [u64; CAPACITY],
@@ -44,18 +44,18 @@ pub fn find<'a, 'b>(
     'candidates: while i < count {
         let at = i;
         i += 1;
+        let size = (names[at] % 256) as usize;
+        if name.len() != size {
+            continue;
+        }
         if !nameable(codes[at], styles[at]) {
             continue;
         }
         let start = (names[at] / 256) as usize;
-        let size = (names[at] % 256) as usize;
         if 65535 < start {
             continue;
         }
         if area.len() < start + size {
-            continue;
-        }
-        if name.len() != size {
             continue;
         }
         let mut j = 0;

@@ -5,6 +5,8 @@ use mathlib.Core.List.{List, [], _∷_, _++_, append-assoc}
 use Prim.Native.Nat.{ℕ, _+_, _*_, _≤_}
 use native.Mathlib.Omega.{arith}
 use lib.ListN.{length, length-append, length-take}
+use types.Run.{OneOf, miss}
+use denote.Enum.Declared.{tagOf}
 use Rattle.rules.specs.Text.{inside, bytesAt, sizeOf}
 use Rattle.rules.specs.SheetValue.{decimal}
 use Rattle.rules.specs.SheetOutput.{line, refusalText}
@@ -18,8 +20,9 @@ use Rattle.answers.specs.Answer.{nameBytes}
 use Rattle.answers.specs.declared.answer.Counts.{Counts}
 use Rattle.answers.specs.declared.answer.Collected.{Collected}
 use Rattle.answers.specs.declared.answer.Collected.the-variants.{Accepted, Record, ArgsArrayIsNotIterable, RepeatedParameter, KwArgsIsNotDict, ArgsValueIsNotString, RepeatedArg, MissingPositionalOnly, Missing, MissingNamedOnly, ExtraPositionalArg, ExtraNamedArg}
+use Rattle.answers.proofs.answer.Collected.{the-type}
 use Rattle.sheet_output.specs.Parts.{linesTo, slotLineAt, remainderText}
-use Rattle.sheet_output.specs.Outcome.{heading, countLine, closing, refusedCells, acceptedShown, Limits}
+use Rattle.sheet_output.specs.Outcome.{heading, countLine, closing, refusedCells, refusedShown, acceptedShown, outcomeShown, Limits}
 use Rattle.sheet_output.specs.declared.parts.Remainder.the-variants.{Star, Named}
 use Rattle.sheet_output.proofs.LawsLine.{put-both}
 use Rattle.sheet_output.proofs.LawsParts.{lines-length, slot-short, remainder-length}
@@ -84,6 +87,27 @@ name-length spec call (Missing name) = part-length spec name
 name-length spec call (MissingNamedOnly name) = part-length spec name
 name-length spec call (ExtraPositionalArg n) = omega arith
 name-length spec call (ExtraNamedArg n name) = part-length call name
+
+-- which variants are refusals that are shown with a name, by their place in the enum
+abbrev pub nameShown : List ℕ
+nameShown = 1 ∷ 2 ∷ 3 ∷ 4 ∷ 5 ∷ 6 ∷ 7 ∷ 8 ∷ 9 ∷ 11 ∷ []
+
+pub refusal-shown
+    : (spec call : List ℕ) (p : Parameters) (board : List ℕ) (r : Collected)
+    → OneOf nameShown (tagOf the-type r)
+    → refusedShown spec call r ≡ outcomeShown spec call p board r
+refusal-shown spec call p board (Accepted c) h = absurd (miss nameShown 0 tt h)
+refusal-shown spec call p board (Record n) h = refl
+refusal-shown spec call p board ArgsArrayIsNotIterable h = refl
+refusal-shown spec call p board (RepeatedParameter name) h = refl
+refusal-shown spec call p board KwArgsIsNotDict h = refl
+refusal-shown spec call p board ArgsValueIsNotString h = refl
+refusal-shown spec call p board (RepeatedArg name) h = refl
+refusal-shown spec call p board (MissingPositionalOnly name) h = refl
+refusal-shown spec call p board (Missing name) h = refl
+refusal-shown spec call p board (MissingNamedOnly name) h = refl
+refusal-shown spec call p board (ExtraPositionalArg n) h = absurd (miss nameShown 10 tt h)
+refusal-shown spec call p board (ExtraNamedArg n name) h = refl
 
 -- ---- an accepted call's text, put part by part
 

@@ -86,9 +86,9 @@ pub(crate) fn name_cell(spec: &[u8], code: u64, name: u64, at: usize, out: &mut 
         return text_cell(name_in(spec, name), b",", at, out);
     }
     if code == 6 {
-        return text_cell(b"*args", b",", at, out);
+        return write_bytes(b"*args,", at, out);
     }
-    text_cell(b"**kwargs", b",", at, out)
+    write_bytes(b"**kwargs,", at, out)
 }
 
 // What a parameter's two cells hold: its value, or how many values there are for `*args` and names for `**kwargs`.

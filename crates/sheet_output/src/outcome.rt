@@ -8,6 +8,7 @@ use answers::answer::Collected;
 use answers::answer::Counts;
 use answers::detail::name_of;
 use builder::spec::ParametersSpec;
+use cells::out::write_bytes;
 ghost use mathlib.Core.Path.{_≡_};
 ghost use mathlib.Core.List.{List};
 ghost use Prim.Native.Nat.{ℕ, _+_, _≤_};
@@ -55,17 +56,17 @@ fn write_ending<'a>(
 {
     match answer {
         Collected::Accepted(counts) => write_accepted(list, spec, call, board, counts, out),
-        Collected::Record(_) => write_refused(spec, call, answer, out),
-        Collected::ArgsArrayIsNotIterable => write_refused(spec, call, answer, out),
-        Collected::RepeatedParameter(_) => write_refused(spec, call, answer, out),
-        Collected::KwArgsIsNotDict => write_refused(spec, call, answer, out),
-        Collected::ArgsValueIsNotString => write_refused(spec, call, answer, out),
-        Collected::RepeatedArg(_) => write_refused(spec, call, answer, out),
-        Collected::MissingPositionalOnly(_) => write_refused(spec, call, answer, out),
-        Collected::Missing(_) => write_refused(spec, call, answer, out),
-        Collected::MissingNamedOnly(_) => write_refused(spec, call, answer, out),
         Collected::ExtraPositionalArg(n) => write_refused_count(23, n as u64, out),
-        Collected::ExtraNamedArg(_, _) => write_refused(spec, call, answer, out),
+        Collected::Record(_)
+        | Collected::ArgsArrayIsNotIterable
+        | Collected::RepeatedParameter(_)
+        | Collected::KwArgsIsNotDict
+        | Collected::ArgsValueIsNotString
+        | Collected::RepeatedArg(_)
+        | Collected::MissingPositionalOnly(_)
+        | Collected::Missing(_)
+        | Collected::MissingNamedOnly(_)
+        | Collected::ExtraNamedArg(_, _) => write_refused(spec, call, answer, out),
     }
 }
 
@@ -95,9 +96,7 @@ fn write_heading(out: &mut [u8]) -> usize
     requires { ⌜ 512 ≤ length (now out) ⌝ }
     ensures { λ r. ⌜ Put heading 0 (now (out .entry)) (now (out .exit)) r ⌝ }
 {
-    let second = text_cell(b"slot", b",", 0, out);
-    let third = text_cell(b"name", b",", second, out);
-    text_cell(b"value", b"\n", third, out)
+    write_bytes(b"slot,name,value\n", 0, out)
 }
 
 fn write_closing(taken: usize, defaulted: usize, at: usize, out: &mut [u8]) -> usize
@@ -113,8 +112,7 @@ fn write_count(word: &[u8], n: usize, at: usize, out: &mut [u8]) -> usize
     ensures { λ r. ⌜ Put (countLine (now (word .entry)) n) at (now (out .entry)) (now (out .exit)) r ⌝ }
 {
     let second = text_cell(word, b",", at, out);
-    let third = number_cell(n as u64, b",", second, out);
-    text_cell(b"", b"\n", third, out)
+    number_cell(n as u64, b",\n", second, out)
 }
 
 // A refusal with the name that goes with it, if one does.
@@ -148,7 +146,7 @@ fn write_number(number: u64, out: &mut [u8]) -> usize
     requires { ⌜ 64 ≤ length (now out) ⌝ }
     ensures { λ r. ⌜ Put (refusedCells number) 0 (now (out .entry)) (now (out .exit)) r ⌝ }
 {
-    let second = text_cell(b"refused", b",", 0, out);
+    let second = write_bytes(b"refused,", 0, out);
     number_cell(number, b",", second, out)
 }
 

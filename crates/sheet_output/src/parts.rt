@@ -6,6 +6,7 @@ use crate::line::number_cell;
 use crate::line::text_cell;
 use crate::line::value_cell;
 use builder::params::Parameters;
+use cells::out::write_bytes;
 use cells::record::pair_at;
 use cells::value::Pair;
 ghost use mathlib.Core.List.{_++_};
@@ -131,8 +132,7 @@ fn write_star<'a>(spec: &'a [u8], call: &'a [u8], value: Pair, at: usize, out: &
     requires { ⌜ at + 512 ≤ length (now out) ⌝ }
     ensures { λ r. ⌜ Put (starLine (now (spec .entry)) (now (call .entry)) (pairOf value)) at (now (out .entry)) (now (out .exit)) r ⌝ }
 {
-    let second = text_cell(b"star", b",", at, out);
-    let third = text_cell(b"", b",", second, out);
+    let third = write_bytes(b"star,,", at, out);
     value_cell(spec, call, value, third, out)
 }
 
@@ -177,7 +177,7 @@ fn write_name<'a>(
     requires { ⌜ at + 512 ≤ length (now out) ⌝ }
     ensures { λ r. ⌜ Put (namedLine (now (spec .entry)) (now (call .entry)) (pairOf key) (pairOf value)) at (now (out .entry)) (now (out .exit)) r ⌝ }
 {
-    let second = text_cell(b"named", b",", at, out);
+    let second = write_bytes(b"named,", at, out);
     let third = text_cell(name_in(call, key.payload), b",", second, out);
     value_cell(spec, call, value, third, out)
 }

@@ -1,23 +1,25 @@
--- `calls::differ::keys_differ` meets its contract. The loop's invariant: what is left is well formed, and no key of the run stands twice if none
--- of what is left does. The measure is how many are left.
+-- `calls::differ::keys_differ` meets its contract. The loop's invariant: the keys behind those that are left differ, and the slot of each has a
+-- mark. The measure is how many are left.
 -- Assumes nothing.
-use mathlib.Core.Path.{_≡_, refl, sym, ap, _∙_}
+use mathlib.Core.Path.{_≡_, refl, sym, ap, subst, _∙_}
 use mathlib.Core.Bool.{Bool}
 use mathlib.Core.List.{List}
-use Prim.Native.Nat.{ℕ}
+use Prim.Native.Nat.{ℕ, _+_, _-_, _*_, _<_}
 use native.Mathlib.Omega.{arith}
+use lib.ListN.{drop, set, length-replicate}
 use borrow.Author.Tests.{not-true, not-false}
 use borrow.Author.Needs.{needs}
 use Rattle.rules.specs.CallRecord.{Pair, pairWidth, readPair, keyIn}
-use Rattle.rules.specs.CallQuestions.{wellFormedEntry, keysDiffer}
+use Rattle.rules.specs.CallQuestions.{keysDiffer}
 use Rattle.cells.specs.Record.{pairAt}
-use Rattle.calls.specs.Runs.{pairsAt, Formed, keysOf, newKey}
-use Rattle.calls.proofs.LawsEach.{each-none, each-passes, each-fails, formed-first, formed-next}
+use Rattle.calls.specs.Runs.{pairsAt, keyThere, keysOf, newKey}
+use Rattle.calls.specs.Slots.{slots}
 use Rattle.calls.proofs.LawsForm.{entry-key}
+use Rattle.calls.proofs.LawsSlots.{entrySlot, mark, keySlot-below, key-unmarked, Walked, formed-last, formed-behind, walked-none, walked-start, walked-end, behind-marked, walked-next, walked-fails}
 use Rattle.calls.proofs.differ.keys_differ.Statement.{statement}
 use Rattle.calls.proofs.differ.keys_differ.Tie as tie
 
--- no key of some pairs stands twice; and the first is none of the others
+-- no key of some entries stands twice; and the first is none of the others
 abbrev holds : List ℕ → List Pair → Bool
 holds area ps = keysDiffer (keysOf area ps)
 
@@ -25,39 +27,82 @@ abbrev first : List ℕ → Pair → List Pair → Bool
 first area p ps = newKey (keyIn area (p .key)) (keysOf area ps)
 
 abbrev Inv-loop : tie.InvT-loop
-Inv-loop cells area from count at₀ left₀ at left =
-    Formed (wellFormedEntry area) cells at left × (holds area (pairsAt cells from count) ≡ holds area (pairsAt cells at left))
+Inv-loop cells area from count marks₀ left₀ marks left = Walked (holds area) (entrySlot area) cells marks from count left
 
 abbrev μ-loop : tie.MeasureT-loop
-μ-loop cells area from count at₀ left₀ at left = left
+μ-loop cells area from count marks₀ left₀ marks left = left
+
+returns : tie.Need-returns Inv-loop μ-loop
+returns c =
+    let a = c .before .before .before .args in
+    sym (walked-none (entrySlot (a .area .now)) (first (a .area .now)) (holds (a .area .now)) (λ p ps. refl) (a .cells .now) (a .from) (a .count) (λ p. refl) refl (c .if1 .taken))
 
 loop-holds : tie.Need-loop-holds Inv-loop μ-loop
-loop-holds c = (c .before .before .pre, refl)
+unfolding slots
+loop-holds c =
+    let a = c .before .before .before .args in
+    walked-start (entrySlot (a .area .now)) (first (a .area .now)) (holds (a .area .now)) (λ p ps. refl) _ _ _ _ (length-replicate {A = ℕ} 929 0) refl
 
-add-next : tie.Need-add-next Inv-loop μ-loop
-unfolding pairWidth
-add-next c = omega (arith, c .before .loop .inv .0 .within)
+sub-behind : tie.Need-sub-behind Inv-loop μ-loop
+sub-behind c = omega (arith, c .before .loop .inv .few)
 
 sub-left : tie.Need-sub-left Inv-loop μ-loop
 sub-left c = search needs
 
-key-new-requires : tie.Need-key-new-requires Inv-loop μ-loop
+mul-at : tie.Need-mul-at Inv-loop μ-loop
 unfolding pairWidth
-key-new-requires c κs =
-    let l = c .before in (
-      entry-key _ _ _ (formed-first _ _ _ _ (c .loop-test .taken) (l .loop .inv .0)),
-      formed-next _ _ _ _ (c .loop-test .taken) (l .loop .inv .0),
+mul-at c = omega (arith, c .before .loop .inv .few, c .before .before .before .before .before .pre .within)
+
+add-at : tie.Need-add-at Inv-loop μ-loop
+unfolding pairWidth
+add-at c = omega (arith, c .before .loop .inv .few, c .before .before .before .before .before .pre .within)
+
+key-slot-requires : tie.Need-key-slot-requires Inv-loop μ-loop
+unfolding pairWidth
+key-slot-requires c κs =
+    let l = c .before in
+    entry-key _ _ _ (formed-last _ _ _ _ _ (c .loop-test .taken) (l .loop .inv .few) (l .before .before .before .before .pre))
+
+-- the slot is one of the table's
+below : (c : tie.After-key-slot Inv-loop μ-loop) → c .key-slot .result < 929
+unfolding slots pairWidth
+below c =
+    let l = c .before .before in
+    let a = l .before .before .before .before .args in
+    subst (λ (n : ℕ). n < 929) (sym (c .key-slot .ensures)) (keySlot-below (keyThere (a .area .now) (a .cells .now) (a .from + pairWidth * (l .loop .left - 1))))
+
+array-read-key-apart : tie.Need-array-read-key-apart Inv-loop μ-loop
+array-read-key-apart c = below c
+
+key-apart-requires : tie.Need-key-apart-requires Inv-loop μ-loop
+unfolding pairWidth readPair pairAt
+key-apart-requires c κs =
+    let n = c .before in
+    let l = n .before in
+    let s = l .before .before .before .before in
+    let area = s .args .area .now in
+    let cells = s .args .cells .now in
+    let at = s .args .from + pairWidth * (l .loop .left - 1) in
+    let few = l .loop .inv .few in (
+      entry-key area cells at (formed-last _ _ _ _ _ (n .loop-test .taken) few (s .pre)),
+      formed-behind _ _ _ _ _ (n .loop-test .taken) few (s .pre),
+      λ free. key-unmarked area (l .loop .marks) (readPair (drop at cells)) (pairsAt cells (at + pairWidth) (s .args .count - l .loop .left))
+          (sym (ap (mark (l .loop .marks)) (c .key-slot .ensures)) ∙ free)
+          (behind-marked (entrySlot area) (first area) (holds area) (λ p ps. refl) _ _ _ _ _ (n .loop-test .taken) (l .loop .inv)),
     )
 
-returns : tie.Need-returns Inv-loop μ-loop
+returns-2 : tie.Need-returns-2 Inv-loop μ-loop
 unfolding pairWidth readPair pairAt
-returns c =
-    let l = c .before .before .before in
-    let area = l .before .before .before .args .area .now in
+returns-2 c =
+    let n = c .before .before .before in
+    let l = n .before in
+    let area = l .before .before .before .before .args .area .now in
     sym
-    (l .loop .inv .1
-    ∙ each-fails pairWidth readPair (first area) (holds area) (λ p ps. refl) _ (l .loop .at) _ (c .before .before .loop-test .taken)
-    (sym (c .before .key-new .ensures) ∙ not-true _ (c .if1 .taken)))
+    (walked-fails (entrySlot area) (first area) (holds area) (λ p ps. refl) _ _ _ _ _ (n .loop-test .taken) (l .loop .inv)
+    (sym (c .before .key-apart .ensures) ∙ not-true _ (c .if2 .taken)))
+
+array-write-marks : tie.Need-array-write-marks Inv-loop μ-loop
+array-write-marks c = below (c .before .before)
 
 loop-less : tie.Need-loop-less Inv-loop μ-loop
 loop-less c = omega arith
@@ -65,18 +110,20 @@ loop-less c = omega arith
 loop-again : tie.Need-loop-again Inv-loop μ-loop
 unfolding pairWidth readPair pairAt
 loop-again c =
-    let l = c .before .before .before in
-    let area = l .before .before .before .args .area .now in (
-      formed-next _ _ _ _ (c .before .before .loop-test .taken) (l .loop .inv .0),
-      l .loop .inv .1
-          ∙ each-passes pairWidth readPair (first area) (holds area) (λ p ps. refl) _ (l .loop .at) _ (c .before .before .loop-test .taken)
-          (sym (c .before .key-new .ensures) ∙ not-false _ (c .if1 .left)),
-    )
+    let n = c .before .before .before in
+    let l = n .before in
+    let a = l .before .before .before .before .args in
+    let area = a .area .now in
+    subst (λ (slot : ℕ). Walked (holds area) (entrySlot area) (a .cells .now) (set (l .loop .marks) slot 1) (a .from) (a .count) (l .loop .left - 1))
+    (sym (c .before .before .key-slot .ensures))
+    (walked-next (entrySlot area) (first area) (holds area) (λ p ps. refl) _ _ _ _ _ (n .loop-test .taken) (l .loop .inv)
+    (keySlot-below (keyThere area (a .cells .now) (a .from + pairWidth * (l .loop .left - 1))))
+    (sym (c .before .key-apart .ensures) ∙ not-false _ (c .if2 .left)))
 
-returns-2 : tie.Need-returns-2 Inv-loop μ-loop
-returns-2 c =
-    let area = c .before .before .before .before .args .area .now in
-    sym (c .before .loop .inv .1 ∙ ap (holds area) (each-none pairWidth readPair _ _ (c .loop-test .left)))
+returns-3 : tie.Need-returns-3 Inv-loop μ-loop
+returns-3 c =
+    let a = c .before .before .before .before .before .args in
+    sym (walked-end (entrySlot (a .area .now)) (first (a .area .now)) (holds (a .area .now)) (λ p ps. refl) _ _ _ _ _ (c .loop-test .left) (c .before .loop .inv))
 
 pub keys-differ-spec : {M : Type 1} → statement M
 keys-differ-spec =
@@ -84,11 +131,17 @@ keys-differ-spec =
     (tie.spec
     Inv-loop
     μ-loop
-    loop-holds
-    add-next
-    sub-left
-    key-new-requires
     returns
+    loop-holds
+    sub-behind
+    sub-left
+    mul-at
+    add-at
+    key-slot-requires
+    array-read-key-apart
+    key-apart-requires
+    returns-2
+    array-write-marks
     loop-less
     loop-again
-    returns-2)
+    returns-3)

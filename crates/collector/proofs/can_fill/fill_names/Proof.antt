@@ -19,73 +19,74 @@ use Rattle.collector.proofs.can_fill.fill_names.Statement.{statement}
 use Rattle.collector.proofs.can_fill.fill_names.Tie as tie
 
 abbrev Inv-loop : tie.InvT-loop
-Inv-loop list spec cells area h next named₀ from kwargs k₀ named k =
-    (k ≤ h .n) × Counted (parametersIn spec (list .params)) next (bytesFrom area cells (namedFrom (headOf h)) 0 k) named
+Inv-loop spec cells area h next named₀ params from kwargs k₀ named k =
+    (k ≤ h .n) × Counted (parametersIn spec params) next (bytesFrom area cells (namedFrom (headOf h)) 0 k) named
 
 abbrev μ-loop : tie.MeasureT-loop
-μ-loop list spec cells area h next named₀ from kwargs k₀ named k = h .n - k
+μ-loop spec cells area h next named₀ params from kwargs k₀ named k = h .n - k
 
 named-from-requires : tie.Need-named-from-requires Inv-loop μ-loop
-named-from-requires c κs = c .before .before .before .pre .call .few
+named-from-requires c κs = c .before .before .before .before .pre .call .few
 
 is-there-requires : tie.Need-is-there-requires Inv-loop μ-loop
 is-there-requires c κs = search needs
 
 loop-holds : tie.Need-loop-holds Inv-loop μ-loop
 loop-holds c =
-    let start = c .before .before .before .before .before .before in
+    let start = c .before .before .before .before .before .before .before in
     let a = start .args in
     (search needs, names-none (a .spec .now) (a .list) (a .cells .now) (a .area .now) (headOf (a .h)) (a .next) (a .named .now) (start .pre))
 
 -- the pairs begin near the front
 from-near : (c : tie.After-named-from Inv-loop μ-loop) → c .named-from .result ≤ 134
 unfolding namedFrom headWidth valueWidth
-from-near c = omega (arith, c .named-from .ensures, c .before .before .before .before .pre .call .few .few-p)
+from-near c = omega (arith, c .named-from .ensures, c .before .before .before .before .before .pre .call .few .few-p)
 
 mul-found-at : tie.Need-mul-found-at Inv-loop μ-loop
 mul-found-at c =
-    let named = c .before .before .before .before .before in
-    omega (arith, c .if1 .taken, named .before .before .before .before .pre .call .few .few-n)
+    let named = c .before .before .before .before .before .before .before .before .before in
+    omega (arith, c .before .before .before .before .if1 .taken, named .before .before .before .before .before .pre .call .few .few-n)
 
 add-found-at : tie.Need-add-found-at Inv-loop μ-loop
 add-found-at c =
-    let named = c .before .before .before .before .before in
-    omega (arith, from-near named, c .if1 .taken, named .before .before .before .before .pre .call .few .few-n)
+    let named = c .before .before .before .before .before .before .before .before .before in
+    omega (arith, from-near named, c .before .before .before .before .if1 .taken, named .before .before .before .before .before .pre .call .few .few-n)
 
 found-at-requires : tie.Need-found-at-requires Inv-loop μ-loop
 found-at-requires c κs = search needs
 
 fill-requires : tie.Need-fill-requires Inv-loop μ-loop
-fill-requires c κs = rw (c .before .found-at .ensures) (found-below _ _ _ _ _)
+fill-requires c κs = rw (c .before .found-at .ensures) (found-below _ (c .before .before .before .before .before .before .before .before .before .before .before .before .before .before .before .before .args .list) _ _ _)
 
 -- what was found for the name, whether that is free, and what is named after it
 module _ (c : tie.After-fill Inv-loop μ-loop) where
   abbrev found : Finding
   found =
-      let a = c .before .before .before .before .before .before .before .before .before .before .before .before .args in
-      foundAt (a .spec .now) (a .list) (a .area .now) (a .cells .now) (namedFrom (headOf (a .h)) + 4 * c .before .before .before .before .before .loop .k)
+      let a = c .before .before .before .before .before .before .before .before .before .before .before .before .before .before .before .before .before .args in
+      foundAt (a .spec .now) (a .list) (a .area .now) (a .cells .now) (namedFrom (headOf (a .h)) + 4 * c .before .before .before .before .before .before .before .before .before .loop .k)
 
   found-there : c .before .before .found-at .result ≡ found
   found-there =
-      let named = c .before .before .before .before .before .before .before .before in
-      let a = named .before .before .before .before .args in
-      c .before .before .found-at .ensures ∙ ap (λ n. foundAt (a .spec .now) (a .list) (a .area .now) (a .cells .now) (n + 4 * c .before .before .before .before .before .loop .k)) (named .named-from .ensures)
+      let named = c .before .before .before .before .before .before .before .before .before .before .before .before in
+      let a = named .before .before .before .before .before .args in
+      c .before .before .found-at .ensures ∙ ap (λ n. foundAt (a .spec .now) (a .list) (a .area .now) (a .cells .now) (n + 4 * c .before .before .before .before .before .before .before .before .before .loop .k)) (named .named-from .ensures)
 
   tested
-      : let a = c .before .before .before .before .before .before .before .before .before .before .before .before .args in
-      freeFor found (isThere (a .list .indices .kwargs)) (a .next) (c .before .before .before .before .before .loop .named) ≡ c .fill .result
+      : let a = c .before .before .before .before .before .before .before .before .before .before .before .before .before .before .before .before .before .args in
+      freeFor found (isThere (a .list .indices .kwargs)) (a .next) (c .before .before .before .before .before .before .before .before .before .loop .named) ≡ c .fill .result
   tested =
-      let there = c .before .before .before .before .before .before in
-      let a = there .before .before .before .before .before .before .args in
-      sym (c .fill .ensures .0 ∙ ap₂ (λ f b. freeFor f b (a .next) (c .before .before .before .before .before .loop .named)) found-there (there .is-there .ensures))
+      let there = c .before .before .before .before .before .before .before .before .before .before in
+      let a = there .before .before .before .before .before .before .before .args in
+      sym (c .fill .ensures .0 ∙ ap₂ (λ f b. freeFor f b (a .next) (c .before .before .before .before .before .before .before .before .before .loop .named)) found-there (there .is-there .ensures))
 
 returns : tie.Need-returns Inv-loop μ-loop
 returns c =
-    let start = c .before .before .before .before .before .before .before .before .before .before .before .before .before in
+    let start = c .before .before .before .before .before .before .before .before .before .before .before .before .before .before .before .before .before .before in
     let a = start .args in
-    let at = c .before .before .before .before .before .before .loop in
+    let below = c .before .before .before .before .before .before .before .before .if1 .taken in
+    let at = c .before .before .before .before .before .before .before .before .before .before .loop in
     record {
-      answer = sym (names-stop (a .spec .now) (a .list) (a .cells .now) (a .area .now) (headOf (a .h)) (a .next) (a .named .now) (start .pre) (at .k) (search needs) (at .named) (at .inv .1) (tested (c .before) ∙ not-true _ (c .if2 .taken)));
+      answer = sym (names-stop (a .spec .now) (a .list) (a .cells .now) (a .area .now) (headOf (a .h)) (a .next) (a .named .now) (start .pre) (at .k) below (at .named) (at .inv .1) (tested (c .before) ∙ not-true _ (c .if2 .taken)));
       counts = λ e. absurd (false≢true e);
     }
 
@@ -97,18 +98,19 @@ loop-less c = omega arith
 
 loop-again : tie.Need-loop-again Inv-loop μ-loop
 loop-again c =
-    let start = c .before .before .before .before .before .before .before .before .before .before .before .before .before in
+    let start = c .before .before .before .before .before .before .before .before .before .before .before .before .before .before .before .before .before .before in
     let a = start .args in
-    let at = c .before .before .before .before .before .before .loop in
+    let below = c .before .before .before .before .before .before .before .before .if1 .taken in
+    let at = c .before .before .before .before .before .before .before .before .before .before .loop in
     let yes-free : c .before .fill .result ≡ true = not-false _ (c .if2 .left) in (
-      search needs,
+      omega (arith, below),
       rw (c .before .fill .ensures .1 yes-free, found-there (c .before))
-          (names-more (a .spec .now) (a .list) (a .cells .now) (a .area .now) (headOf (a .h)) (a .next) (a .named .now) (start .pre) (at .k) (search needs) (at .named) (at .inv .1) (tested (c .before) ∙ yes-free)),
+          (names-more (a .spec .now) (a .list) (a .cells .now) (a .area .now) (headOf (a .h)) (a .next) (a .named .now) (start .pre) (at .k) below (at .named) (at .inv .1) (tested (c .before) ∙ yes-free)),
     )
 
 returns-2 : tie.Need-returns-2 Inv-loop μ-loop
 returns-2 c =
-    let start = c .before .before .before .before .before .before .before .before .before in
+    let start = c .before .before .before .before .before .before .before .before .before .before in
     let a = start .args in
     let at = c .before .before .loop in
     let whole : at .k ≡ a .h .n = omega (arith, at .inv .0, c .if1 .left) in

@@ -1,8 +1,8 @@
--- `collector::resolve::found_at` meets its contract: the name is the part that the pair's key names. Assumes nothing.
+-- `findings::resolve::found_at` meets its contract: the name is the part that the pair's key names. Assumes nothing.
 use mathlib.Core.Path.{ap, _∙_}
 use Rattle.cells.specs.Text.{partAt}
 use Rattle.lookup.specs.Lookup.{findIn}
-use Rattle.findings.specs.Resolve.{foundAt}
+use Rattle.findings.specs.Resolve.{foundIn}
 use borrow.Author.Needs.{needs}
 use Rattle.findings.proofs.resolve.found_at.Statement.{statement}
 use Rattle.findings.proofs.resolve.found_at.Tie as tie
@@ -13,16 +13,16 @@ pair-at-requires c κs = search needs
 part-requires : tie.Need-part-requires
 part-requires c κs = search needs
 
-get-str-requires : tie.Need-get-str-requires
-get-str-requires c κs = search needs
+find-requires : tie.Need-find-requires
+find-requires c κs = search needs
 
 returns : tie.Need-returns
-unfolding foundAt
+unfolding foundIn
 returns c =
     let a = c .before .before .before .before .before .before .args in
-    c .get-str .ensures
-    ∙ ap (findIn (a .spec .now) (a .list .params .codes) (a .list .params .styles) (a .list .params .names) (a .list .params .len))
+    c .find .ensures
+    ∙ ap (findIn (a .spec .now) (a .codes .now) (a .styles .now) (a .names .now) (a .len))
     (c .before .part .ensures ∙ ap (λ v. partAt (a .area .now) (v .payload)) (c .before .before .pair-at .ensures))
 
 pub found-at-spec : {M : Type 1} → statement M
-found-at-spec = tie.close (tie.spec pair-at-requires part-requires get-str-requires returns)
+found-at-spec = tie.close (tie.spec pair-at-requires part-requires find-requires returns)

@@ -10,13 +10,13 @@ use Rattle.findings.proofs.resolve.resolve_names.Statement.{statement}
 use Rattle.findings.proofs.resolve.resolve_names.Tie as tie
 
 abbrev Inv-loop : tie.InvT-loop
-Inv-loop list spec cells area from n sources₀ rest₀ count₀ k₀ sources rest count k = (k ≤ n) × Resolved (parametersIn spec (list .params)) cells area (pairsFrom area cells from k) sources rest count
+Inv-loop spec cells area from n sources₀ rest₀ params count₀ k₀ sources rest count k = (k ≤ n) × Resolved (parametersIn spec params) cells area (pairsFrom area cells from k) sources rest count
 
 abbrev μ-loop : tie.MeasureT-loop
-μ-loop list spec cells area from n sources₀ rest₀ count₀ k₀ sources rest count k = n - k
+μ-loop spec cells area from n sources₀ rest₀ params count₀ k₀ sources rest count k = n - k
 
 loop-holds : tie.Need-loop-holds Inv-loop μ-loop
-loop-holds c = (search needs, c .before .before .before .pre .empty)
+loop-holds c = (search needs, c .before .before .before .before .pre .empty)
 
 mul-pair : tie.Need-mul-pair Inv-loop μ-loop
 mul-pair c = search needs
@@ -29,9 +29,9 @@ found-at-requires c κs = search needs
 
 enter-requires : tie.Need-enter-requires Inv-loop μ-loop
 enter-requires c κs =
-    let start = c .before .before .before .before .before .before .before .before in
+    let start = c .before .before .before .before .before .before .before .before .before .before .before .before .before in
     let a = start .args in
-    let at = c .before .before .before .before .loop in (
+    let at = c .before .before .before .before .before .before .before .before .loop in (
       omega (arith, start .pre .pairs .few, start .pre .pairs .near),
       naming-room (a .spec .now) (a .list) (a .cells .now) (a .area .now) (a .from) (a .n) (a .sources .now) (a .rest .now) (start .pre) (at .k) (search needs) (at .sources) (at .rest) (at .count) (at .inv .1),
       subst (Below 64) (sym (c .before .before .found-at .ensures))
@@ -46,17 +46,18 @@ loop-less c = omega arith
 
 loop-again : tie.Need-loop-again Inv-loop μ-loop
 loop-again c =
-    let start = c .before .before .before .before .before .before .before .before .before in
+    let start = c .before .before .before .before .before .before .before .before .before .before .before .before .before .before in
     let a = start .args in
-    let at = c .before .before .before .before .before .loop in (
-      search needs,
+    let below = c .before .before .before .before .before .before .before .before .loop-test .taken in
+    let at = c .before .before .before .before .before .before .before .before .before .loop in (
+      omega (arith, below),
       rw (c .enter .ensures .0, c .enter .ensures .1 .0, c .enter .ensures .1 .1, c .before .before .before .found-at .ensures)
-          (naming-step (a .spec .now) (a .list) (a .cells .now) (a .area .now) (a .from) (a .n) (a .sources .now) (a .rest .now) (start .pre) (at .k) (search needs) (at .sources) (at .rest) (at .count) (at .inv .1)),
+          (naming-step (a .spec .now) (a .list) (a .cells .now) (a .area .now) (a .from) (a .n) (a .sources .now) (a .rest .now) (start .pre) (at .k) below (at .sources) (at .rest) (at .count) (at .inv .1)),
     )
 
 returns : tie.Need-returns Inv-loop μ-loop
 returns c =
-    let a = c .before .before .before .before .before .args in
+    let a = c .before .before .before .before .before .before .args in
     let at = c .before .loop in
     let whole : at .k ≡ a .n = omega arith in
     subst (λ m. Resolved (parametersIn (a .spec .now) (a .list .params)) (a .cells .now) (a .area .now) (pairsFrom (a .area .now) (a .cells .now) (a .from) m) (at .sources) (at .rest) (at .count)) whole (at .inv .1)

@@ -9,58 +9,40 @@ use Rattle.sheet_judge.proofs.call.count_line.Statement.{statement}
 use Rattle.sheet_judge.proofs.call.count_line.Tie as tie
 
 row-in-requires : tie.Need-row-in-requires
-row-in-requires c κs = search needs
+row-in-requires c κs = let pre = c .before .pre in (pre .0, pre .1)
 
 returns : tie.Need-returns
 returns c = counted-short _ _ _ (sym (c .before .before .row-in .ensures .told) ∙ not-true _ (c .if1 .taken))
 
 sub-call-part : tie.Need-sub-call-part
-sub-call-part c =
-    let i = c .before .before .before .row-in .ensures .inside (not-false _ (c .before .if1 .left)) in
-    search needs
+sub-call-part c = c .before .before .before .row-in .ensures .inside (not-false _ (c .before .if1 .left)) .part-ordered
 
 part-call-part-start : tie.Need-part-call-part-start
-part-call-part-start c =
-    let i = c .before .before .before .row-in .ensures .inside (not-false _ (c .before .if1 .left)) in
-    search needs
+part-call-part-start c = c .before .before .before .row-in .ensures .inside (not-false _ (c .before .if1 .left)) .part-ordered
 
 part-call-part-end : tie.Need-part-call-part-end
-part-call-part-end c =
-    let i = c .before .before .before .row-in .ensures .inside (not-false _ (c .before .if1 .left)) in
-    search needs
+part-call-part-end c = c .before .before .before .row-in .ensures .inside (not-false _ (c .before .if1 .left)) .part-within
 
 call-part-requires : tie.Need-call-part-requires
 call-part-requires c κs = search needs
 
 sub-value : tie.Need-sub-value
-sub-value c =
-    let i = c .before .before .before .before .before .row-in .ensures .inside (not-false _ (c .before .before .before .if1 .left)) in
-    search needs
+sub-value c = c .before .before .before .before .before .row-in .ensures .inside (not-false _ (c .before .before .before .if1 .left)) .value-ordered
 
 part-value-start : tie.Need-part-value-start
-part-value-start c =
-    let i = c .before .before .before .before .before .row-in .ensures .inside (not-false _ (c .before .before .before .if1 .left)) in
-    search needs
+part-value-start c = c .before .before .before .before .before .row-in .ensures .inside (not-false _ (c .before .before .before .if1 .left)) .value-ordered
 
 part-value-end : tie.Need-part-value-end
-part-value-end c =
-    let i = c .before .before .before .before .before .row-in .ensures .inside (not-false _ (c .before .before .before .if1 .left)) in
-    search needs
+part-value-end c = c .before .before .before .before .before .row-in .ensures .inside (not-false _ (c .before .before .before .if1 .left)) .value-within
 
 sub-call-row-right : tie.Need-sub-call-row-right
-sub-call-row-right c =
-    let i = c .before .before .before .before .before .before .row-in .ensures .inside (not-false _ (c .before .before .before .before .if1 .left)) in
-    search needs
+sub-call-row-right c = c .before .before .before .before .before .before .row-in .ensures .inside (not-false _ (c .before .before .before .before .if1 .left)) .name-ordered
 
 part-call-row-right-start : tie.Need-part-call-row-right-start
-part-call-row-right-start c =
-    let i = c .before .before .before .before .before .before .row-in .ensures .inside (not-false _ (c .before .before .before .before .if1 .left)) in
-    search needs
+part-call-row-right-start c = c .before .before .before .before .before .before .row-in .ensures .inside (not-false _ (c .before .before .before .before .if1 .left)) .name-ordered
 
 part-call-row-right-end : tie.Need-part-call-row-right-end
-part-call-row-right-end c =
-    let i = c .before .before .before .before .before .before .row-in .ensures .inside (not-false _ (c .before .before .before .before .if1 .left)) in
-    search needs
+part-call-row-right-end c = c .before .before .before .before .before .before .row-in .ensures .inside (not-false _ (c .before .before .before .before .if1 .left)) .name-within
 
 call-row-right-requires : tie.Need-call-row-right-requires
 call-row-right-requires c κs = search needs
@@ -75,7 +57,7 @@ returns-2 c =
     counted-bad _ _ _ (sym (r .told) ∙ t) (r .row t) (q .call-part .ensures) (c .before .call-row-right .ensures) (not-true _ (c .if2 .taken))
 
 counts-after-requires : tie.Need-counts-after-requires
-counts-after-requires c κs = search needs
+counts-after-requires c κs = c .before .before .before .before .before .before .before .before .before .before .before .pre .2
 
 returns-3 : tie.Need-returns-3
 unfolding piece

@@ -9,55 +9,37 @@ use Rattle.sheet_judge.proofs.parameters.line_right.Statement.{statemen
 use Rattle.sheet_judge.proofs.parameters.line_right.Tie as tie
 
 row-in-requires : tie.Need-row-in-requires
-row-in-requires c κs = search needs
+row-in-requires c κs = c .before .pre
 
 returns : tie.Need-returns
 returns c = rw (sym (c .before .before .row-in .ensures .told) ∙ not-true _ (c .if1 .taken))
 
 sub-parameter-row-right : tie.Need-sub-parameter-row-right
-sub-parameter-row-right c =
-    let i = c .before .before .before .row-in .ensures .inside (not-false _ (c .before .if1 .left)) in
-    search needs
+sub-parameter-row-right c = c .before .before .before .row-in .ensures .inside (not-false _ (c .before .if1 .left)) .part-ordered
 
 part-parameter-row-right-start : tie.Need-part-parameter-row-right-start
-part-parameter-row-right-start c =
-    let i = c .before .before .before .row-in .ensures .inside (not-false _ (c .before .if1 .left)) in
-    search needs
+part-parameter-row-right-start c = c .before .before .before .row-in .ensures .inside (not-false _ (c .before .if1 .left)) .part-ordered
 
 part-parameter-row-right-end : tie.Need-part-parameter-row-right-end
-part-parameter-row-right-end c =
-    let i = c .before .before .before .row-in .ensures .inside (not-false _ (c .before .if1 .left)) in
-    search needs
+part-parameter-row-right-end c = c .before .before .before .row-in .ensures .inside (not-false _ (c .before .if1 .left)) .part-within
 
 sub-parameter-row-right-2 : tie.Need-sub-parameter-row-right-2
-sub-parameter-row-right-2 c =
-    let i = c .before .before .before .before .row-in .ensures .inside (not-false _ (c .before .before .if1 .left)) in
-    search needs
+sub-parameter-row-right-2 c = c .before .before .before .before .row-in .ensures .inside (not-false _ (c .before .before .if1 .left)) .name-ordered
 
 part-parameter-row-right-start-2 : tie.Need-part-parameter-row-right-start-2
-part-parameter-row-right-start-2 c =
-    let i = c .before .before .before .before .row-in .ensures .inside (not-false _ (c .before .before .if1 .left)) in
-    search needs
+part-parameter-row-right-start-2 c = c .before .before .before .before .row-in .ensures .inside (not-false _ (c .before .before .if1 .left)) .name-ordered
 
 part-parameter-row-right-end-2 : tie.Need-part-parameter-row-right-end-2
-part-parameter-row-right-end-2 c =
-    let i = c .before .before .before .before .row-in .ensures .inside (not-false _ (c .before .before .if1 .left)) in
-    search needs
+part-parameter-row-right-end-2 c = c .before .before .before .before .row-in .ensures .inside (not-false _ (c .before .before .if1 .left)) .name-within
 
 sub-parameter-row-right-3 : tie.Need-sub-parameter-row-right-3
-sub-parameter-row-right-3 c =
-    let i = c .before .before .before .before .before .row-in .ensures .inside (not-false _ (c .before .before .before .if1 .left)) in
-    search needs
+sub-parameter-row-right-3 c = c .before .before .before .before .before .row-in .ensures .inside (not-false _ (c .before .before .before .if1 .left)) .value-ordered
 
 part-parameter-row-right-start-3 : tie.Need-part-parameter-row-right-start-3
-part-parameter-row-right-start-3 c =
-    let i = c .before .before .before .before .before .row-in .ensures .inside (not-false _ (c .before .before .before .if1 .left)) in
-    search needs
+part-parameter-row-right-start-3 c = c .before .before .before .before .before .row-in .ensures .inside (not-false _ (c .before .before .before .if1 .left)) .value-ordered
 
 part-parameter-row-right-end-3 : tie.Need-part-parameter-row-right-end-3
-part-parameter-row-right-end-3 c =
-    let i = c .before .before .before .before .before .row-in .ensures .inside (not-false _ (c .before .before .before .if1 .left)) in
-    search needs
+part-parameter-row-right-end-3 c = c .before .before .before .before .before .row-in .ensures .inside (not-false _ (c .before .before .before .if1 .left)) .value-within
 
 parameter-row-right-requires : tie.Need-parameter-row-right-requires
 parameter-row-right-requires c κs = search needs

@@ -10,14 +10,11 @@ use borrow.Author.Needs.{needs}
 use Rattle.sheet_output.proofs.outcome.write_number.Statement.{statement}
 use Rattle.sheet_output.proofs.outcome.write_number.Tie as tie
 
-slice-aggregate-text-cell : tie.Need-slice-aggregate-text-cell
-slice-aggregate-text-cell c = search needs
+slice-aggregate-write-bytes : tie.Need-slice-aggregate-write-bytes
+slice-aggregate-write-bytes c = search needs
 
-slice-aggregate-text-cell-2 : tie.Need-slice-aggregate-text-cell-2
-slice-aggregate-text-cell-2 c = search needs
-
-text-cell-requires : tie.Need-text-cell-requires
-text-cell-requires c κs = search needs
+write-bytes-requires : tie.Need-write-bytes-requires
+write-bytes-requires c κs = search needs
 
 slice-aggregate-number-cell : tie.Need-slice-aggregate-number-cell
 slice-aggregate-number-cell c = search needs
@@ -31,9 +28,9 @@ same-length c = search needs
 returns : tie.Need-returns
 unfolding refusedCells
 returns c =
-    let a = c .before .before .before .before .before .before .before .before .before .before .before .before .args in
+    let a = c .before .before .before .before .before .before .before .before .before .before .before .args in
     put-both (114 ∷ 101 ∷ 102 ∷ 117 ∷ 115 ∷ 101 ∷ 100 ∷ 44 ∷ []) (decimal (a .number) ++ (44 ∷ [])) 0 (a .out .now)
-    (omega (arith, c .before .before .before .before .before .before .before .before .before .before .before .before .pre, decimal-length (a .number), length-append (decimal (a .number)) (44 ∷ []))) _ _ _ _ (c .before .before .before .before .before .before .before .text-cell .ensures) (c .before .before .number-cell .ensures)
+    (omega (arith, c .before .before .before .before .before .before .before .before .before .before .before .pre, decimal-length (a .number), length-append (decimal (a .number)) (44 ∷ []))) _ _ _ _ (c .before .before .before .before .before .before .before .write-bytes .ensures) (c .before .before .number-cell .ensures)
 
 pub write-number-spec : {M : Type 1} → statement M
-write-number-spec = tie.close (tie.spec slice-aggregate-text-cell slice-aggregate-text-cell-2 text-cell-requires slice-aggregate-number-cell number-cell-requires same-length returns)
+write-number-spec = tie.close (tie.spec slice-aggregate-write-bytes write-bytes-requires slice-aggregate-number-cell number-cell-requires same-length returns)

@@ -12,26 +12,23 @@ use borrow.Author.Needs.{needs}
 use Rattle.sheet_output.proofs.parts.write_name.Statement.{statement}
 use Rattle.sheet_output.proofs.parts.write_name.Tie as tie
 
-slice-aggregate-text-cell : tie.Need-slice-aggregate-text-cell
-slice-aggregate-text-cell c = search needs
+slice-aggregate-write-bytes : tie.Need-slice-aggregate-write-bytes
+slice-aggregate-write-bytes c = search needs
 
-slice-aggregate-text-cell-2 : tie.Need-slice-aggregate-text-cell-2
-slice-aggregate-text-cell-2 c = search needs
-
-text-cell-requires : tie.Need-text-cell-requires
-text-cell-requires c κs = search needs
+write-bytes-requires : tie.Need-write-bytes-requires
+write-bytes-requires c κs = search needs
 
 name-in-requires : tie.Need-name-in-requires
 name-in-requires c κs = search needs
 
-slice-aggregate-text-cell-3 : tie.Need-slice-aggregate-text-cell-3
-slice-aggregate-text-cell-3 c = search needs
+slice-aggregate-text-cell : tie.Need-slice-aggregate-text-cell
+slice-aggregate-text-cell c = search needs
 
-text-cell-requires-2 : tie.Need-text-cell-requires-2
-text-cell-requires-2 c κs = let a = c .before .before .before .before .before .before .before .before .before .before .before .before .args in omega (arith, c .before .before .before .before .before .before .before .before .before .before .before .before .pre, ap length (c .before .before .name-in .ensures), shownName-length (a .call .now) (a .key .payload))
+text-cell-requires : tie.Need-text-cell-requires
+text-cell-requires c κs = let a = c .before .before .before .before .before .before .before .before .before .before .before .args in omega (arith, c .before .before .before .before .before .before .before .before .before .before .before .pre, ap length (c .before .before .name-in .ensures), shownName-length (a .call .now) (a .key .payload))
 
 value-cell-requires : tie.Need-value-cell-requires
-value-cell-requires c κs = let a = c .before .before .before .before .before .before .before .before .before .before .before .before .before .before .before .before .args in omega (arith, c .before .before .before .before .before .before .before .before .before .before .before .before .before .before .before .before .pre, ap length (c .before .before .before .before .before .before .name-in .ensures), shownName-length (a .call .now) (a .key .payload), length-append (c .before .before .before .before .before .before .name-in .result .now) (44 ∷ []))
+value-cell-requires c κs = let a = c .before .before .before .before .before .before .before .before .before .before .before .before .before .before .before .args in omega (arith, c .before .before .before .before .before .before .before .before .before .before .before .before .before .before .before .pre, ap length (c .before .before .before .before .before .before .name-in .ensures), shownName-length (a .call .now) (a .key .payload), length-append (c .before .before .before .before .before .before .name-in .result .now) (44 ∷ []))
 
 same-length : tie.Need-same-length
 same-length c = search needs
@@ -39,11 +36,11 @@ same-length c = search needs
 returns : tie.Need-returns
 unfolding namedLine
 returns c =
-    let a = c .before .before .before .before .before .before .before .before .before .before .before .before .before .before .before .before .before .before .before .args in
+    let a = c .before .before .before .before .before .before .before .before .before .before .before .before .before .before .before .before .before .before .args in
     put-line (110 ∷ 97 ∷ 109 ∷ 101 ∷ 100 ∷ []) (shownName (a .call .now) (a .key .payload)) (shownValue (a .spec .now) (a .call .now) (pairOf (a .value))) (a .at) (a .out .now)
-    (omega (arith, c .before .before .before .before .before .before .before .before .before .before .before .before .before .before .before .before .before .before .before .pre, shownName-length (a .call .now) (a .key .payload), shownValue-length (a .spec .now) (a .call .now) (pairOf (a .value))))
-    _ _ _ _ _ _ (c .before .before .before .before .before .before .before .before .before .before .before .before .text-cell .ensures)
-    (put-same _ _ (ap (λ l. l ++ (44 ∷ [])) (c .before .before .before .before .before .before .before .before .before .name-in .ensures)) (c .before .before .before .before .before .before .text-cell2 .ensures)) (c .before .before .value-cell .ensures)
+    (omega (arith, c .before .before .before .before .before .before .before .before .before .before .before .before .before .before .before .before .before .before .pre, shownName-length (a .call .now) (a .key .payload), shownValue-length (a .spec .now) (a .call .now) (pairOf (a .value))))
+    _ _ _ _ _ _ (c .before .before .before .before .before .before .before .before .before .before .before .before .write-bytes .ensures)
+    (put-same _ _ (ap (λ l. l ++ (44 ∷ [])) (c .before .before .before .before .before .before .before .before .before .name-in .ensures)) (c .before .before .before .before .before .before .text-cell .ensures)) (c .before .before .value-cell .ensures)
 
 pub write-name-spec : {M : Type 1} → statement M
-write-name-spec = tie.close (tie.spec slice-aggregate-text-cell slice-aggregate-text-cell-2 text-cell-requires name-in-requires slice-aggregate-text-cell-3 text-cell-requires-2 value-cell-requires same-length returns)
+write-name-spec = tie.close (tie.spec slice-aggregate-write-bytes write-bytes-requires name-in-requires slice-aggregate-text-cell text-cell-requires value-cell-requires same-length returns)

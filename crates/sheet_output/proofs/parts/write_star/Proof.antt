@@ -1,31 +1,21 @@
--- `sheet_output::parts::write_star` meets its contract: three cells are a line. Assumes nothing.
+-- `sheet_output::parts::write_star` meets its contract: the literal and the value are a line. Assumes nothing.
 use native.Mathlib.Omega.{arith}
-use mathlib.Core.List.{[], _∷_}
+use mathlib.Core.List.{[], _∷_, _++_}
+use lib.ListN.{length-append}
+use Rattle.rules.specs.SheetOutput.{line}
 use Rattle.cells.specs.Value.{pairOf}
 use Rattle.sheet_output.specs.Line.{shownValue}
 use Rattle.sheet_output.specs.Parts.{starLine}
-use Rattle.sheet_output.proofs.LawsLine.{put-line, shownValue-length}
+use Rattle.sheet_output.proofs.LawsLine.{put-both, shownValue-length}
 use borrow.Author.Needs.{needs}
 use Rattle.sheet_output.proofs.parts.write_star.Statement.{statement}
 use Rattle.sheet_output.proofs.parts.write_star.Tie as tie
 
-slice-aggregate-text-cell : tie.Need-slice-aggregate-text-cell
-slice-aggregate-text-cell c = search needs
+slice-aggregate-write-bytes : tie.Need-slice-aggregate-write-bytes
+slice-aggregate-write-bytes c = search needs
 
-slice-aggregate-text-cell-2 : tie.Need-slice-aggregate-text-cell-2
-slice-aggregate-text-cell-2 c = search needs
-
-text-cell-requires : tie.Need-text-cell-requires
-text-cell-requires c κs = search needs
-
-slice-aggregate-text-cell-3 : tie.Need-slice-aggregate-text-cell-3
-slice-aggregate-text-cell-3 c = search needs
-
-slice-aggregate-text-cell-4 : tie.Need-slice-aggregate-text-cell-4
-slice-aggregate-text-cell-4 c = search needs
-
-text-cell-requires-2 : tie.Need-text-cell-requires-2
-text-cell-requires-2 c κs = search needs
+write-bytes-requires : tie.Need-write-bytes-requires
+write-bytes-requires c κs = search needs
 
 value-cell-requires : tie.Need-value-cell-requires
 value-cell-requires c κs = search needs
@@ -34,12 +24,14 @@ same-length : tie.Need-same-length
 same-length c = search needs
 
 returns : tie.Need-returns
-unfolding starLine
+unfolding starLine line
 returns c =
-    let a = c .before .before .before .before .before .before .before .before .before .before .before .before .before .before .before .before .before .before .before .args in
-    put-line (115 ∷ 116 ∷ 97 ∷ 114 ∷ []) [] (shownValue (a .spec .now) (a .call .now) (pairOf (a .value))) (a .at) (a .out .now)
-    (omega (arith, c .before .before .before .before .before .before .before .before .before .before .before .before .before .before .before .before .before .before .before .pre, shownValue-length (a .spec .now) (a .call .now) (pairOf (a .value))))
-    _ _ _ _ _ _ (c .before .before .before .before .before .before .before .before .before .before .before .before .text-cell .ensures) (c .before .before .before .before .before .before .text-cell2 .ensures) (c .before .before .value-cell .ensures)
+    let start = c .before .before .before .before .before .before .before .before .before .before .before .before in
+    let a = start .args in
+    let shown = shownValue (a .spec .now) (a .call .now) (pairOf (a .value)) in
+    put-both (115 ∷ 116 ∷ 97 ∷ 114 ∷ 44 ∷ 44 ∷ []) (shown ++ (10 ∷ [])) (a .at) (a .out .now)
+    (omega (arith, start .pre, shownValue-length (a .spec .now) (a .call .now) (pairOf (a .value)), length-append shown (10 ∷ [])))
+    _ _ _ _ (c .before .before .before .before .before .before .write-bytes .ensures) (c .before .before .value-cell .ensures)
 
 pub write-star-spec : {M : Type 1} → statement M
-write-star-spec = tie.close (tie.spec slice-aggregate-text-cell slice-aggregate-text-cell-2 text-cell-requires slice-aggregate-text-cell-3 slice-aggregate-text-cell-4 text-cell-requires-2 value-cell-requires same-length returns)
+write-star-spec = tie.close (tie.spec slice-aggregate-write-bytes write-bytes-requires value-cell-requires same-length returns)

@@ -1,3 +1,4 @@
+use native.Mathlib.Omega.{arith}
 use Rattle.calls.specs.Head.{headOf}
 use Rattle.slots.proofs.LawsWritten.{board-written}
 use borrow.Author.Needs.{needs}
@@ -6,7 +7,7 @@ use Rattle.slots.proofs.board.write_board.Tie as tie
 
 -- src/board.rt:40:26
 add-left-over : tie.Need-add-left-over
-add-left-over c = search needs
+add-left-over c = let pre = c .before .before .before .pre in omega (arith, pre .few .few-p, pre .few .few-s)
 
 -- src/board.rt:40:9
 left-over-requires : tie.Need-left-over-requires
@@ -14,11 +15,11 @@ left-over-requires c κs = search needs
 
 -- src/board.rt:46:9
 write-slots-requires : tie.Need-write-slots-requires
-write-slots-requires c κs = search needs
+write-slots-requires c κs = let pre = c .before .before .before .before .before .before .before .before .before .before .before .before .pre in (pre .room, omega (arith, pre .long))
 
 -- src/board.rt:47:46
 mul-write-values : tie.Need-mul-write-values
-mul-write-values c = search needs
+mul-write-values c = let pre = c .before .before .before .before .before .before .before .before .before .before .before .before .before .before .before .pre in omega (arith, pre .room)
 
 -- src/board.rt:47:5
 write-values-requires : tie.Need-write-values-requires
@@ -26,15 +27,15 @@ write-values-requires c κs = search needs
 
 -- src/board.rt:48:37
 mul-write-named : tie.Need-mul-write-named
-mul-write-named c = search needs
+mul-write-named c = let pre = c .before .before .before .before .before .before .before .before .before .before .before .before .before .before .before .before .before .before .before .pre in omega (arith, pre .room)
 
 -- src/board.rt:48:51
 mul-write-named-2 : tie.Need-mul-write-named-2
-mul-write-named-2 c = search needs
+mul-write-named-2 c = let pre = c .before .before .before .before .before .before .before .before .before .before .before .before .before .before .before .before .before .before .before .pre in omega (arith, c .before .before .before .before .before .before .before .before .before .before .before .before .before .before .before .left-over .ensures, pre .few .few-p, pre .few .few-s)
 
 -- src/board.rt:48:37
 add-write-named : tie.Need-add-write-named
-add-write-named c = search needs
+add-write-named c = let pre = c .before .before .before .before .before .before .before .before .before .before .before .before .before .before .before .before .before .before .before .pre in omega (arith, pre .room, c .before .before .before .before .before .before .before .before .before .before .before .before .before .before .before .left-over .ensures, pre .few .few-p, pre .few .few-s)
 
 -- src/board.rt:48:5
 write-named-requires : tie.Need-write-named-requires

@@ -1,0 +1,26 @@
+-- What is proved of the transcription.
+pub mod AnswersBuilt
+pub mod AnswersCollected
+pub mod AnswersFilled
+pub mod LawsSpec
+pub mod LawsCanFill
+pub mod CanFill
+pub mod CheckUnique
+pub mod LawsSlots
+pub mod LawsPositional
+pub mod LawsNamed
+pub mod LawsInside
+pub mod LawsEnds
+pub mod LawsRepeats
+pub mod LawsEntries
+pub mod LawsSettled
+pub mod LawsRemainders
+pub mod LawsCollect
+pub mod LawsBuilt
+pub mod Collect
+pub mod LawsBuilder
+pub mod Builder
+pub mod BuiltFills
+pub mod BuiltCollects
+pub mod LawsBoard
+pub mod Whole

@@ -1,0 +1,104 @@
+-- 01's twelve examples taken through the Rust whole, its builder, its check of the written names and its collector, and one case for each of its
+-- ends that they do not reach, as one joint fact. Its proof is `rust-examples` of proofs/. The records are those of rules/specs/Examples.
+use mathlib.Core.Path.{_≡_}
+use mathlib.Core.List.{List, [], _∷_}
+use mathlib.Core.Option.{Option, some}
+use Prim.Native.Nat.{ℕ}
+use Rattle.rules.specs.Text.{payloadOf, startOf, sizeOf, bytesAt, textIn}
+use Rattle.rules.specs.Value.{valueWidth, valueCells, readValue, callText}
+use Rattle.rules.specs.ParameterRecord.{ParameterRecord, stepWidth, stepCells, readStep, stepCount, readParameters, encodeParameters}
+use Rattle.rules.specs.CallRecord.{CallRecord, pairWidth, pairCells, readPair, headWidth, readHead, readCall, encodeCall, namedIn, keyIn, entryIn, callIn}
+use Rattle.rules.specs.Parameters.{comesBefore, act}
+use Rattle.rules.specs.Collection.{callOf}
+use Rattle.rules.specs.Examples.{specBytes, callBytes, step, listW, listK, noParameters, whole, start, block, written-out}
+use Rattle.original.specs.Builder.{toU32, withCapacity, takeStep, built}
+use Rattle.original.specs.CheckUnique.{newCheckUnique, writtenNames}
+use Rattle.original.specs.Locals.{Held, single, tuple, dict, FunctionError, ArgsArrayIsNotIterable, RepeatedArg, KwArgsIsNotDict, ArgsValueIsNotString, MissingPositionalOnly, MissingNamedOnly, Missing, ExtraPositionalArg, ExtraNamedArg, ok, err, usizeMax}
+use Rattle.original.specs.Arguments.{noText, takeOne, takePositionals, testRepeats, entryAt}
+use Rattle.original.specs.Collect.{noKind, missingAt, settleOne, settle, startLocals, collectSlow, isShort, collectInline}
+use Rattle.original.specs.Whole.{End, panics, writtenTwice, collects, rustEnd}
+
+-- how the Rust ends for two records over the examples' areas; to unfold it is to unfold all that it cites
+unfoldable pub rustEnds : ParameterRecord → CallRecord → End (List ℕ)
+unfolding payloadOf startOf sizeOf bytesAt textIn valueWidth valueCells readValue callText stepWidth stepCells readStep stepCount readParameters encodeParameters pairWidth pairCells readPair headWidth readHead readCall encodeCall namedIn keyIn entryIn callIn comesBefore act callOf toU32 withCapacity takeStep built newCheckUnique writtenNames usizeMax noText takeOne takePositionals testRepeats entryAt noKind missingAt settleOne settle startLocals collectSlow isShort collectInline rustEnd
+rustEnds list call = rustEnd (encodeParameters list) specBytes (encodeCall call) callBytes
+
+-- the collector hands back these slots, or this error
+abbrev pub slots : List (Option Held) → End (List ℕ)
+slots ss = collects (ok ss)
+
+abbrev pub fails : FunctionError → End (List ℕ)
+fails e = collects (err e)
+
+-- `block` and `start`
+abbrev pub blockBytes : List ℕ
+blockBytes = 98 ∷ 108 ∷ 111 ∷ 99 ∷ 107 ∷ []
+
+abbrev pub startBytes : List ℕ
+startBytes = 115 ∷ 116 ∷ 97 ∷ 114 ∷ 116 ∷ []
+
+-- a slot that holds the whole number n
+abbrev pub holding : ℕ → Option Held
+holding n = some (single (whole n))
+
+-- `*, block`, and `*args`
+unfoldable pub listNamed : ParameterRecord
+unfolding payloadOf
+listNamed = record { function = payloadOf 0 5; steps = step 5 0 0 0 ∷ step 1 (payloadOf 5 5) 0 0 ∷ [] }
+
+unfoldable pub listArgs : ParameterRecord
+unfolding payloadOf
+listArgs = record { function = payloadOf 0 5; steps = step 6 0 0 0 ∷ [] }
+
+-- `/, start, block`, and `/, /`
+unfoldable pub listTwo : ParameterRecord
+unfolding payloadOf
+listTwo = record { function = payloadOf 0 5; steps = step 4 0 0 0 ∷ step 1 (payloadOf 10 5) 0 0 ∷ step 1 (payloadOf 5 5) 0 0 ∷ [] }
+
+unfoldable pub listSlashes : ParameterRecord
+unfolding payloadOf
+listSlashes = record { function = payloadOf 0 5; steps = step 4 0 0 0 ∷ step 4 0 0 0 ∷ [] }
+
+pub record RustExamples : Type 0 where
+  pub three-values : rustEnds listW (written-out (whole 1 ∷ whole 2 ∷ whole 3 ∷ []) []) ≡ slots (holding 1 ∷ holding 2 ∷ holding 3 ∷ [])
+  pub nothing-given : rustEnds listW (written-out [] []) ≡ fails (MissingPositionalOnly blockBytes)
+  pub one-value : rustEnds listW (written-out (whole 1 ∷ []) []) ≡ fails (Missing startBytes)
+  pub repeated : rustEnds listW (written-out (whole 1 ∷ whole 2 ∷ []) (start ∷ [])) ≡ fails (RepeatedArg startBytes)
+  pub repeated-star :
+      rustEnds listW (record { positionals = whole 1 ∷ []; named = start ∷ []; starKind = 1; items = whole 2 ∷ []; doubleKind = 0; entries = [] })
+      ≡ fails (RepeatedArg startBytes)
+  pub repeated-entry :
+      rustEnds listW (record { positionals = whole 1 ∷ []; named = start ∷ []; starKind = 0; items = []; doubleKind = 1; entries = start ∷ [] })
+      ≡ fails (RepeatedArg startBytes)
+  pub four-values : rustEnds listW (written-out (whole 1 ∷ whole 2 ∷ whole 3 ∷ whole 4 ∷ []) []) ≡ fails (ExtraPositionalArg 1)
+  pub positional-only-named : rustEnds listW (written-out (whole 1 ∷ []) (start ∷ block ∷ [])) ≡ fails (ExtraNamedArg (blockBytes ∷ []))
+  pub positional-only-kept :
+      rustEnds listK (written-out (whole 1 ∷ []) (start ∷ block ∷ []))
+      ≡ slots (holding 1 ∷ holding 400 ∷ holding 30 ∷ some (dict (record { name = record { payload = 1285; bytes = blockBytes }; value = whole 7 } ∷ [])) ∷ [])
+  pub missing-first : rustEnds listW (written-out [] (start ∷ block ∷ [])) ≡ fails (MissingPositionalOnly blockBytes)
+  pub star-first :
+      rustEnds listW (record { positionals = whole 1 ∷ whole 2 ∷ []; named = start ∷ []; starKind = 2; items = []; doubleKind = 0; entries = [] })
+      ≡ fails ArgsArrayIsNotIterable
+  pub whole-key :
+      rustEnds listW (record {
+        positionals = whole 1 ∷ [];
+        named = start ∷ [];
+        starKind = 0;
+        items = [];
+        doubleKind = 1;
+        entries = record { key = whole 5; value = whole 6 } ∷ start ∷ [];
+      })
+      ≡ fails ArgsValueIsNotString
+  pub nothing-asked : rustEnds noParameters (written-out [] []) ≡ slots []
+  -- past the twelve: no dictionary, a named-only parameter that is missing, values for *args
+  pub no-dictionary :
+      rustEnds listW (record { positionals = whole 1 ∷ []; named = []; starKind = 0; items = []; doubleKind = 2; entries = [] }) ≡ fails KwArgsIsNotDict
+  pub named-only-missing : rustEnds listNamed (written-out [] []) ≡ fails (MissingNamedOnly blockBytes)
+  pub star-kept :
+      rustEnds listArgs (record { positionals = whole 1 ∷ []; named = []; starKind = 1; items = whole 2 ∷ []; doubleKind = 0; entries = [] })
+      ≡ slots (some (tuple (whole 1 ∷ whole 2 ∷ [])) ∷ [])
+  -- of two repeats the one at the lower index, whichever is written last
+  pub lowest-repeated : rustEnds listTwo (written-out (whole 1 ∷ whole 2 ∷ []) (start ∷ block ∷ [])) ≡ fails (RepeatedArg startBytes)
+  -- before the collector: a name written twice, a second / mark
+  pub written-twice : rustEnds listW (written-out [] (start ∷ start ∷ [])) ≡ writtenTwice startBytes
+  pub slash-twice : rustEnds listSlashes (written-out [] []) ≡ panics

@@ -1,0 +1,92 @@
+-- `prepared::check::is_prepared` meets its contract, from the answers of its callees, one after the other.
+-- Assumes nothing.
+use mathlib.Core.Path.{sym, _∙_}
+use native.Mathlib.Omega.{arith}
+use borrow.Author.Tests.{not-false}
+use borrow.Author.Needs.{needs}
+use Rattle.prepared.proofs.LawsCheck.{not-few, not-long, not-named, not-right, is-apart, rows-keyed}
+use Rattle.prepared.proofs.check.is_prepared.Statement.{statement}
+use Rattle.prepared.proofs.check.is_prepared.Tie as tie
+
+cell-requires : tie.Need-cell-requires
+cell-requires c κs = search needs
+
+returns : tie.Need-returns
+returns c =
+    let read = c .before in
+    let a = read .before .before .before .args in
+    not-few (a .area .now) (a .cells .now) (read .cell .result) (read .cell .ensures) (c .if1 .taken)
+
+mul-if2 : tie.Need-mul-if2
+mul-if2 c = search needs
+
+add-if2 : tie.Need-add-if2
+add-if2 c = search needs
+
+returns-2 : tie.Need-returns-2
+returns-2 c =
+    let read = c .before .before in
+    let a = read .before .before .before .args in
+    not-long (a .area .now) (a .cells .now) (read .cell .result) (read .cell .ensures) (c .before .if1 .left) (omega (arith, c .if2 .taken))
+
+shared-slice-read-is-name : tie.Need-shared-slice-read-is-name
+shared-slice-read-is-name c = search needs
+
+is-name-requires : tie.Need-is-name-requires
+is-name-requires c κs = search needs
+
+returns-3 : tie.Need-returns-3
+returns-3 c =
+    let named = c .before in
+    let long = named .before .before in
+    let read = long .before .before in
+    let a = read .before .before .before .args in
+    not-named (a .area .now) (a .cells .now) (read .cell .result) (read .cell .ensures) (long .before .if1 .left) (long .if2 .left) (named .is-name .ensures)
+    (c .if3 .taken)
+
+rows-right-requires : tie.Need-rows-right-requires
+rows-right-requires c κs = search needs
+
+returns-4 : tie.Need-returns-4
+returns-4 c =
+    let right = c .before in
+    let named = right .before .before in
+    let long = named .before .before in
+    let read = long .before .before in
+    let a = read .before .before .before .args in
+    not-right (a .area .now) (a .cells .now) (read .cell .result) (read .cell .ensures) (long .before .if1 .left) (long .if2 .left) (named .is-name .ensures)
+    (right .before .if3 .left) (right .rows-right .ensures) (c .if4 .taken)
+
+names-apart-requires : tie.Need-names-apart-requires
+names-apart-requires c κs =
+    let right = c .before in
+    let long = right .before .before .before .before in
+    rows-keyed _ _ (long .before .before .cell .result) (long .if2 .left)
+    (sym (right .rows-right .ensures) ∙ not-false (right .rows-right .result) (c .if4 .left))
+
+returns-5 : tie.Need-returns-5
+returns-5 c =
+    let right = c .before .before in
+    let named = right .before .before in
+    let long = named .before .before in
+    let read = long .before .before in
+    let a = read .before .before .before .args in
+    is-apart (a .area .now) (a .cells .now) (read .cell .result) (read .cell .ensures) (long .before .if1 .left) (long .if2 .left) (named .is-name .ensures)
+    (right .before .if3 .left) (right .rows-right .ensures) (c .before .if4 .left) (c .names-apart .ensures)
+
+pub is-prepared-spec : {M : Type 1} → statement M
+is-prepared-spec =
+    tie.close
+    (tie.spec
+    cell-requires
+    returns
+    mul-if2
+    add-if2
+    returns-2
+    shared-slice-read-is-name
+    is-name-requires
+    returns-3
+    rows-right-requires
+    returns-4
+    names-apart-requires
+    returns-5)

@@ -1,0 +1,124 @@
+-- `prepared::load::indices_in` meets its contract. The loop's invariant: the counts and indices are those of the rows so far.
+-- The measure is how many are left. Assumes nothing.
+use mathlib.Core.Path.{_≡_, refl, _∙_}
+use mathlib.Core.Logic.{⊎-elim}
+use Prim.Native.Nat.{_+_, _*_, _≤_, _-_}
+use native.Mathlib.Omega.{arith}
+use lib.ListN.{getD}
+use borrow.Author.Needs.{needs}
+use Rattle.prepared.proofs.LawsLoad.{Indexed, indexed-none, indexed-next, neither-args, neither-kwargs}
+use Rattle.prepared.proofs.load.indices_in.Statement.{statement}
+use Rattle.prepared.proofs.load.indices_in.Tie as tie
+
+abbrev Inv-loop : tie.InvT-loop
+Inv-loop cells n only₀ positional₀ args₀ kwargs₀ i₀ only positional args kwargs i = (i ≤ n) × Indexed cells i only positional args kwargs
+
+abbrev μ-loop : tie.MeasureT-loop
+μ-loop cells n only₀ positional₀ args₀ kwargs₀ i₀ only positional args kwargs i = n - i
+
+loop-holds : tie.Need-loop-holds Inv-loop μ-loop
+loop-holds c = (search needs, indexed-none _)
+
+mul-at : tie.Need-mul-at Inv-loop μ-loop
+mul-at c = search needs
+
+add-at : tie.Need-add-at Inv-loop μ-loop
+add-at c = search needs
+
+mul-code : tie.Need-mul-code Inv-loop μ-loop
+mul-code c = search needs
+
+shared-slice-read-code : tie.Need-shared-slice-read-code Inv-loop μ-loop
+shared-slice-read-code c = search needs
+
+add-style : tie.Need-add-style Inv-loop μ-loop
+add-style c = search needs
+
+mul-style : tie.Need-mul-style Inv-loop μ-loop
+mul-style c = search needs
+
+shared-slice-read-style : tie.Need-shared-slice-read-style Inv-loop μ-loop
+shared-slice-read-style c = search needs
+
+is-positional-only-requires : tie.Need-is-positional-only-requires Inv-loop μ-loop
+is-positional-only-requires c κs = search needs
+
+counted-requires : tie.Need-counted-requires Inv-loop μ-loop
+counted-requires c κs = omega (arith, c .before .before .before .before .loop .inv .1 .only-few)
+
+is-positional-requires : tie.Need-is-positional-requires Inv-loop μ-loop
+is-positional-requires c κs = search needs
+
+counted-requires-2 : tie.Need-counted-requires-2 Inv-loop μ-loop
+counted-requires-2 c κs = omega (arith, c .before .before .before .before .before .before .loop .inv .1 .few)
+
+takes-rest-requires : tie.Need-takes-rest-requires Inv-loop μ-loop
+takes-rest-requires c κs = search needs
+
+or-first-requires : tie.Need-or-first-requires Inv-loop μ-loop
+or-first-requires c κs = search needs
+
+is-kwargs-requires : tie.Need-is-kwargs-requires Inv-loop μ-loop
+is-kwargs-requires c κs = search needs
+
+or-first-requires-2 : tie.Need-or-first-requires-2 Inv-loop μ-loop
+or-first-requires-2 c κs = search needs
+
+add-i : tie.Need-add-i Inv-loop μ-loop
+add-i c = search needs
+
+loop-less : tie.Need-loop-less Inv-loop μ-loop
+loop-less c = search needs
+
+loop-again : tie.Need-loop-again Inv-loop μ-loop
+loop-again c =
+    let rest = c .before in
+    let counts = rest .before in
+    let first = counts .before .before .before in
+    let at = first .before .before .before .before .loop in
+    let cells = first .before .before .before .before .before .before .args .cells .now in
+    let code = getD cells (2 + 6 * at .i) 0 in (
+      search needs,
+      ⊎-elim
+          (λ w. indexed-next cells (at .i) (at .only) (at .positional) (at .args) (at .kwargs) _ _ _ _ (at .inv .1) (first .is-positional-only .ensures)
+          (counts .before .before .counted .ensures) (counts .before .is-positional .ensures) (counts .counted2 .ensures) (w .4 ∙ w .1 .ensures) (w .2 .ensures)
+          (w .5 ∙ w .3 .ensures))
+          (λ w. indexed-next cells (at .i) (at .only) (at .positional) (at .args) (at .kwargs) _ _ _ _ (at .inv .1) (first .is-positional-only .ensures)
+          (counts .before .before .counted .ensures) (counts .before .is-positional .ensures) (counts .counted2 .ensures)
+          (neither-args code (at .args) _ (at .i) (rest .takes-rest .ensures) (w .0 .left) (w .1)) refl
+          (neither-kwargs code (at .kwargs) _ (at .i) (rest .takes-rest .ensures) (w .0 .left) (w .2)))
+          (c .if1 .came),
+    )
+
+returns : tie.Need-returns Inv-loop μ-loop
+returns c =
+    let at = c .before .loop in
+    let e : at .i ≡ c .before .before .before .args .n = omega (arith, at .inv .0, c .loop-test .left) in
+    λ area. rw e at (at .inv .1 .indices area)
+
+pub indices-in-spec : {M : Type 1} → statement M
+indices-in-spec =
+    tie.close
+    (tie.spec
+    Inv-loop
+    μ-loop
+    loop-holds
+    mul-at
+    add-at
+    mul-code
+    shared-slice-read-code
+    add-style
+    mul-style
+    shared-slice-read-style
+    is-positional-only-requires
+    counted-requires
+    is-positional-requires
+    counted-requires-2
+    takes-rest-requires
+    or-first-requires
+    is-kwargs-requires
+    or-first-requires-2
+    add-i
+    loop-less
+    loop-again
+    returns)

@@ -1,0 +1,86 @@
+-- `prepared::row::Row::is_right` meets its contract, from the answers of its callees, one after the other.
+-- Assumes nothing.
+use mathlib.Core.Path.{ap, _∙_}
+use borrow.Author.Needs.{needs}
+use Rattle.rules.specs.Parameters.{act}
+use Rattle.rules.specs.ParameterQuestions.{stepName, usesRight}
+use Rattle.builder.specs.Params.{stepOf}
+use Rattle.prepared.specs.Rows.{rowIn}
+use Rattle.prepared.proofs.LawsRows.{right-stands, right-name, right-uses, right-key}
+use Rattle.prepared.proofs.row.Row.is_right.Statement.{statement}
+use Rattle.prepared.proofs.row.Row.is_right.Tie as tie
+
+may-stand-requires : tie.Need-may-stand-requires
+may-stand-requires c κs = search needs
+
+returns : tie.Need-returns
+unfolding rowIn
+returns c =
+    let stood = c .before in
+    let a = stood .before .before .args in
+    let r = rowIn (a .self) in
+    right-stands (a .area .now) r (stood .may-stand .ensures (r .step .default)) (c .if1 .taken)
+
+step-requires : tie.Need-step-requires
+step-requires c κs = search needs
+
+name-inside-requires : tie.Need-name-inside-requires
+name-inside-requires c κs = search needs
+
+returns-2 : tie.Need-returns-2
+unfolding rowIn
+returns-2 c =
+    let named = c .before in
+    let stepped = named .before in
+    let stood = stepped .before .before in
+    let a = stood .before .before .args in
+    let r = rowIn (a .self) in
+    right-name (a .area .now) r (stood .may-stand .ensures (r .step .default)) (stepped .before .if1 .left)
+    (named .name-inside .ensures ∙ ap (stepName (a .area .now)) (stepped .step .ensures)) (c .if2 .taken)
+
+uses-right-requires : tie.Need-uses-right-requires
+uses-right-requires c κs = search needs
+
+returns-3 : tie.Need-returns-3
+unfolding rowIn stepOf
+returns-3 c =
+    let used = c .before in
+    let named = used .before .before in
+    let stepped = named .before in
+    let stood = stepped .before .before in
+    let a = stood .before .before .args in
+    let r = rowIn (a .self) in
+    right-uses (a .area .now) r (stood .may-stand .ensures (r .step .default)) (stepped .before .if1 .left)
+    (named .name-inside .ensures ∙ ap (stepName (a .area .now)) (stepped .step .ensures)) (used .before .if2 .left)
+    (used .uses-right .ensures ∙ ap (λ s. usesRight (a .area .now) (act s) (s .name) (s .default)) (stepped .step .ensures)) (c .if3 .taken)
+
+key-of-requires : tie.Need-key-of-requires
+key-of-requires c κs = search needs
+
+returns-4 : tie.Need-returns-4
+unfolding rowIn stepOf
+returns-4 c =
+    let used = c .before .before .before in
+    let named = used .before .before in
+    let stepped = named .before in
+    let stood = stepped .before .before in
+    let a = stood .before .before .args in
+    let r = rowIn (a .self) in
+    right-key (a .area .now) r (stood .may-stand .ensures (r .step .default)) (stepped .before .if1 .left)
+    (named .name-inside .ensures ∙ ap (stepName (a .area .now)) (stepped .step .ensures)) (used .before .if2 .left)
+    (used .uses-right .ensures ∙ ap (λ s. usesRight (a .area .now) (act s) (s .name) (s .default)) (stepped .step .ensures)) (c .before .before .if3 .left)
+    (c .before .key-of .ensures)
+
+pub is-right-spec : {M : Type 1} → statement M
+is-right-spec =
+    tie.close
+    (tie.spec
+    may-stand-requires
+    returns
+    step-requires
+    name-inside-requires
+    returns-2
+    uses-right-requires
+    returns-3
+    key-of-requires
+    returns-4)

@@ -1,0 +1,73 @@
+// A list prepared once and bound against many times (01, collector): a record's list is laid out in lent cells, and calls are bound
+// against the cells. They come back from outside, so they are asked before they are believed.
+use answers::answer::Collected;
+use builder::build;
+use cells::answer::Answer;
+use cells::record::cell;
+use check::is_prepared;
+use collector::collect::bind;
+use load::load;
+use row::FRONT;
+use row::ROW;
+use write::write_list;
+ghost use Rattle.prepared.specs.Prepared.{boundPrepared};
+ghost use Rattle.prepared.specs.Bind.{Preparing, EndsBound};
+
+pub mod check;
+pub mod load;
+pub mod row;
+pub mod write;
+
+// How many cells the longest list takes.
+pub const PREPARED: usize = 386;
+
+// How preparing ends.
+pub enum Preparation {
+    // so many cells are written
+    Written(usize),
+    // 1 to 8, by its number
+    Refused(u64),
+    // fewer cells are lent than the longest list takes
+    NoRoom,
+}
+
+// How binding against lent cells ends.
+pub enum PreparedBound {
+    // the cells are no prepared list
+    NotPrepared,
+    Bound(Collected),
+}
+
+// The list of a parameter record, of any cells and bytes, laid out from cell 0 on. Nothing is written unless all of it is.
+pub fn prepare(spec_cells: &[u64], spec: &[u8], out: &mut [u64]) -> Preparation
+    ensures { λ r. ⌜ Preparing (now («spec_cells» .entry)) (now (spec .entry)) (now (out .entry)) (now (out .exit)) r ⌝ }
+{
+    let built = build(spec_cells, spec);
+    let listed = built.answer;
+    if let Answer::Refused(question) = listed {
+        return Preparation::Refused(question);
+    }
+    if out.len() < PREPARED {
+        return Preparation::NoRoom;
+    }
+    let list = built.list;
+    let params = list.params;
+    write_list(params, cell(spec_cells, 0), spec, out);
+    Preparation::Written(FRONT + ROW * params.len)
+}
+
+// A call, of any cells and bytes, against cells that are handed over as a prepared list.
+pub fn bind_prepared(
+    prepared: &[u64],
+    spec: &[u8],
+    cells: &[u64],
+    area: &[u8],
+    board: &mut [u64],
+) -> PreparedBound
+    ensures { λ r. ⌜ EndsBound (boundPrepared (now (spec .entry)) (now (prepared .entry)) (now (cells .entry)) (now (area .entry)) (now (board .entry))) (now (board .entry)) (now (board .exit)) r ⌝ }
+{
+    if !is_prepared(prepared, spec) {
+        return PreparedBound::NotPrepared;
+    }
+    PreparedBound::Bound(bind(load(prepared), spec, cells, area, board))
+}

@@ -1,0 +1,146 @@
+// A prepared list in the builder's columns, as binding reads it: each row is copied once. What holds of the columns holds of any rows;
+// that they are right is asked before (`check`).
+use crate::row::DEFAULT_KIND;
+use crate::row::DEFAULT_PAYLOAD;
+use crate::row::FRONT;
+use crate::row::NAME;
+use crate::row::ROW;
+use crate::row::STYLE;
+use builder::params::CAPACITY;
+use builder::params::Parameters;
+use builder::spec::DefParamIndices;
+use builder::spec::Index;
+use builder::spec::ParametersSpec;
+ghost use mathlib.Core.Path.{_≡_};
+ghost use mathlib.Core.Bool.{cond, _||_};
+ghost use mathlib.Core.List.{List};
+ghost use Prim.Native.Nat.{ℕ, _+_, _*_, _≤_};
+ghost use lib.Dec.{eqb};
+ghost use lib.ListN.{length};
+ghost use Rattle.cells.specs.Listed.{listed};
+ghost use Rattle.builder.specs.Build.{IsList};
+ghost use Rattle.prepared.specs.Prepared.{listIn};
+ghost use Rattle.prepared.specs.Rows.{paramAt, Whole};
+ghost use Rattle.prepared.specs.Load.{byPosition, onlyByPosition, restOfNames, orAt, IndicesOf};
+
+pub(crate) fn load(cells: &[u64]) -> ParametersSpec
+    requires { ⌜ Whole (now cells) ⌝ }
+    ensures { λ r. ⌜ ((area : List ℕ) → IsList area r (listIn area (now (cells .entry)))) ⌝ }
+{
+    let n = cells[0] as usize;
+    let mut params = Parameters {
+        codes: [0; CAPACITY],
+        styles: [0; CAPACITY],
+        names: [0; CAPACITY],
+        default_kinds: [0; CAPACITY],
+        default_payloads: [0; CAPACITY],
+        len: n,
+    };
+    let mut i = 0;
+    while i < n {
+        let at = FRONT + ROW * i;
+        params.codes[i] = cells[at];
+        params.styles[i] = cells[at + STYLE];
+        params.names[i] = cells[at + NAME];
+        params.default_kinds[i] = cells[at + DEFAULT_KIND];
+        params.default_payloads[i] = cells[at + DEFAULT_PAYLOAD];
+        i += 1;
+    }
+    let indices = indices_in(cells, n);
+    ParametersSpec { params, indices }
+}
+
+// How many of the n rows are positional-only and how many positional, and where `*args` and `**kwargs` stand.
+fn indices_in(cells: &[u64], n: usize) -> DefParamIndices
+    requires { ⌜ (n ≤ 64) × (2 + 6 * n ≤ length (now cells)) ⌝ }
+    ensures { λ r. ⌜ ((area : List ℕ) → IndicesOf (listed (paramAt area (now (cells .entry))) 0 n) r) ⌝ }
+{
+    let mut only = 0;
+    let mut positional = 0;
+    let mut args = Index::Absent;
+    let mut kwargs = Index::Absent;
+    let mut i = 0;
+    while i < n {
+        let at = FRONT + ROW * i;
+        let code = cells[at];
+        let style = cells[at + STYLE];
+        only = counted(only, is_positional_only(code, style));
+        positional = counted(positional, is_positional(code, style));
+        if takes_rest(code) {
+            args = or_first(args, code == 6, i);
+            kwargs = or_first(kwargs, is_kwargs(code), i);
+        }
+        i += 1;
+    }
+    DefParamIndices {
+        num_positional_only: only,
+        num_positional: positional,
+        args,
+        kwargs,
+    }
+}
+
+// One more where the row is of the kind that is counted.
+fn counted(count: usize, yes: bool) -> usize
+    requires { ⌜ count ≤ 64 ⌝ }
+    ensures { λ r. ⌜ r ≡ cond yes (count + 1) count ⌝ }
+{
+    if yes {
+        return count + 1;
+    }
+    count
+}
+
+// The index that was found before, or this one where the row is of the kind that is looked for.
+fn or_first(found: Index, yes: bool, i: usize) -> Index
+    ensures { λ r. ⌜ r ≡ orAt found yes i ⌝ }
+{
+    match found {
+        Index::At(j) => Index::At(j),
+        Index::Absent => {
+            if yes {
+                return Index::At(i);
+            }
+            Index::Absent
+        }
+    }
+}
+
+fn is_positional(code: u64, style: u64) -> bool
+    ensures { λ r. ⌜ r ≡ byPosition code style ⌝ }
+{
+    match code {
+        1..=3 => style < 2,
+        _ => false,
+    }
+}
+
+fn is_positional_only(code: u64, style: u64) -> bool
+    ensures { λ r. ⌜ r ≡ onlyByPosition code style ⌝ }
+{
+    match code {
+        1..=3 => style < 1,
+        _ => false,
+    }
+}
+
+// Is it `*args` or `**kwargs`?
+fn takes_rest(code: u64) -> bool
+    ensures { λ r. ⌜ r ≡ (eqb code 6 || restOfNames code) ⌝ }
+{
+    match code {
+        1..=3 => false,
+        _ => true,
+    }
+}
+
+// By the builder's reading, a code that adds no parameter is that of `**kwargs`.
+fn is_kwargs(code: u64) -> bool
+    ensures { λ r. ⌜ r ≡ restOfNames code ⌝ }
+{
+    match code {
+        1..=3 => false,
+        6 => false,
+        _ => true,
+    }
+}

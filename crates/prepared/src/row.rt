@@ -1,0 +1,118 @@
+// A row of a prepared list: what is kept of one parameter, and what must hold of it by itself.
+use builder::params::Step;
+use builder::params::bytes_at;
+use cells::text;
+ghost use mathlib.Core.Path.{_≡_};
+ghost use mathlib.Core.Bool.{true};
+ghost use Prim.Native.Nat.{_+_, _*_, _<_, _≤_};
+ghost use lib.ListN.{length};
+ghost use Rattle.rules.specs.Text.{bytesAt};
+ghost use Rattle.rules.specs.Value.{Value};
+ghost use Rattle.rules.specs.Parameters.{actOf, nextStyle, rank};
+ghost use Rattle.builder.specs.Params.{stepOf, styleFor};
+ghost use Rattle.cells.specs.Text.{keyOf};
+ghost use Rattle.prepared.specs.Prepared.{rowRight};
+ghost use Rattle.prepared.specs.Rows.{rowIn, rowAt, stands};
+
+// How many cells a row takes, and how many stand before the first one.
+pub const ROW: usize = 6;
+
+pub const FRONT: usize = 2;
+
+// Which cell of a row is which; the first is the code.
+pub const STYLE: usize = 1;
+
+pub const NAME: usize = 2;
+
+pub const DEFAULT_KIND: usize = 3;
+
+pub const DEFAULT_PAYLOAD: usize = 4;
+
+pub const KEY: usize = 5;
+
+// The cells of a row: a step's, the number of the style under which the parameter was added, and the key of its name.
+pub struct Row {
+    pub code: u64,
+    pub style: u64,
+    pub name: u64,
+    pub default_kind: u64,
+    pub default_payload: u64,
+    pub key: u64,
+}
+
+// Row i, which must be there.
+pub(crate) fn row_at(cells: &[u64], i: usize) -> Row
+    requires { ⌜ 8 + 6 * i ≤ length (now cells) ⌝ }
+    ensures { λ r. ⌜ rowIn r ≡ rowAt (now (cells .entry)) i ⌝ }
+{
+    let at = FRONT + ROW * i;
+    Row {
+        code: cells[at],
+        style: cells[at + STYLE],
+        name: cells[at + NAME],
+        default_kind: cells[at + DEFAULT_KIND],
+        default_payload: cells[at + DEFAULT_PAYLOAD],
+        key: cells[at + KEY],
+    }
+}
+
+// The key of a name: most names that differ are told apart by one comparison.
+pub(crate) fn key_of(area: &[u8], name: u64) -> u64
+    ensures { λ r. ⌜ r ≡ keyOf (bytesAt (now (area .entry)) name) ⌝ }
+{
+    text::key_of(bytes_at(area, name))
+}
+
+// Does this code add a parameter, and may it stand under this style?
+fn may_stand(code: u64, style: u64) -> bool
+    ensures { λ r. ⌜ ((v : Value) → r ≡ stands code style v) ⌝ }
+{
+    match code {
+        1..=3 => style < 3,
+        6 => style < 2,
+        7 => style < 3,
+        _ => false,
+    }
+}
+
+// The number of the style that follows a parameter with this code, which was added under this style.
+pub(crate) fn style_after(code: u64, style: u64) -> u64
+    requires { ⌜ style < 3 ⌝ }
+    ensures { λ r. ⌜ ((v : Value) → stands code style v ≡ true → r ≡ rank (nextStyle (styleFor style) (actOf code v))) ⌝ }
+{
+    match code {
+        6 => 2,
+        7 => 3,
+        _ => style,
+    }
+}
+
+impl Row {
+    pub(crate) fn step(self) -> Step
+        ensures { λ r. ⌜ stepOf r ≡ rowIn self .step ⌝ }
+    {
+        Step {
+            code: self.code,
+            name: self.name,
+            default_kind: self.default_kind,
+            default_payload: self.default_payload,
+        }
+    }
+
+    // All that a row by itself is asked.
+    pub(crate) fn is_right(self, area: &[u8]) -> bool
+        ensures { λ r. ⌜ r ≡ rowRight (now (area .entry)) (rowIn self) ⌝ }
+    {
+        if !may_stand(self.code, self.style) {
+            return false;
+        }
+        let step = self.step();
+        if !step.name_inside(area) {
+            return false;
+        }
+        if !step.uses_right(area) {
+            return false;
+        }
+        self.key == key_of(area, self.name)
+    }
+}
