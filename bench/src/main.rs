@@ -1,0 +1,126 @@
+// Ours against the Rust, in one process, on the same inputs: `bench` prints the table, `bench growth` sizes 1 to 64 as rows, `bench plot` draws
+// such rows. The baseline is the published bodies over stand-ins (oracle/), which keep the original's precomputed hashes and allocate no
+// more than it does; it is not the unmodified crate. These are measurements and no tests.
+mod input;
+mod plot;
+mod sides;
+mod time;
+
+use input::{input, Shape, SHAPES};
+use sides::{ours, rust, List};
+use std::io::Read;
+use time::{instructions, times};
+
+const SIZES: [usize; 3] = [4, 16, 64];
+const LISTS: [List; 2] = [List::Cold, List::Prepared];
+
+// Where a row of ours is slower, what it pays for.
+fn reason(shape: Shape, list: List) -> &'static str {
+    match (list, shape) {
+        (List::Cold, _) => "builder by value (a form of 01)",
+        (_, Shape::Positional) => "cells are asked each time: 9 to 14, and whether they are a prepared list",
+        (_, _) => "plain search for names (a form of 01), in lookup and in 12, 13; cells are asked each time",
+    }
+}
+
+fn list_name(list: List) -> &'static str {
+    match list {
+        List::Cold => "cold",
+        List::Prepared => "prepared",
+    }
+}
+
+fn table() {
+    println!("Baseline: published bodies of starlark 0.14.2 over stand-ins, not the unmodified crate. Both sides in one process, release builds.");
+    println!("Ours starts from the records' cells; our board is not cleared between calls. The Rust starts from ready values and hashes, checks");
+    println!("written names, and its slots are cleared before each call. Medians of 301 batches, ours and the Rust's by turns.");
+    println!();
+    println!("| parameters | call | list | ours ns | Rust ns | ours / Rust | instructions ours / Rust | above 1.0 for |");
+    println!("|---|---|---|---|---|---|---|---|");
+    for list in LISTS {
+        for size in SIZES {
+            for shape in SHAPES {
+                row(size, shape, list);
+            }
+        }
+    }
+}
+
+fn row(size: usize, shape: Shape, list: List) {
+    let t = times(size, shape, list);
+    let ratio = t.ours / t.rust;
+    let counted =
+        instructions("ours", size, shape, list).zip(instructions("rust", size, shape, list));
+    let by_count = match counted {
+        Some((a, b)) => format!("{a:.0} / {b:.0} = {:.2}", a / b),
+        None => "no valgrind".to_owned(),
+    };
+    let why = if ratio > 1.0 { reason(shape, list) } else { "" };
+    println!(
+        "| {size} | {shape} | {} | {:.0} | {:.0} | {ratio:.2} | {by_count} | {why} |",
+        list_name(list),
+        t.ours,
+        t.rust
+    );
+}
+
+fn growth() {
+    println!("call,list,parameters,ours ns,Rust ns");
+    for shape in SHAPES {
+        for list in LISTS {
+            for size in 1..=64 {
+                let t = times(size, shape, list);
+                println!(
+                    "{shape},{},{size},{:.1},{:.1}",
+                    list_name(list),
+                    t.ours,
+                    t.rust
+                );
+            }
+        }
+    }
+}
+
+fn plot_rows() {
+    let mut rows = String::new();
+    std::io::stdin()
+        .read_to_string(&mut rows)
+        .expect("rows on standard input");
+    match plot::plot(&rows) {
+        Some(svg) => print!("{svg}"),
+        None => {
+            eprintln!("bench plot: these are not rows of `bench growth`");
+            std::process::exit(2);
+        }
+    }
+}
+
+// One side alone, for callgrind.
+fn one(words: &[String]) -> Option<()> {
+    let [side, size, shape, list, times] = words else {
+        return None;
+    };
+    let shape = SHAPES.into_iter().find(|s| format!("{s:?}") == *shape)?;
+    let list = LISTS.into_iter().find(|l| format!("{l:?}") == *list)?;
+    let input = input(size.parse().ok().filter(|n| (1..=64).contains(n))?, shape);
+    let run = match side.as_str() {
+        "ours" => ours,
+        "rust" => rust,
+        _ => return None,
+    };
+    run(&input, shape, list, times.parse().ok()?).then_some(())
+}
+
+fn main() {
+    let words: Vec<String> = std::env::args().skip(1).collect();
+    match words.first().map(String::as_str) {
+        None => table(),
+        Some("growth") => growth(),
+        Some("plot") => plot_rows(),
+        Some("one") if one(&words[1..]).is_some() => {}
+        _ => {
+            eprintln!("usage: bench | bench growth | bench plot <ROWS | bench one SIDE SIZE SHAPE LIST TIMES");
+            std::process::exit(2);
+        }
+    }
+}

@@ -1,0 +1,74 @@
+// How long a side takes: the median over many batches, ours and the Rust's by turns; and how many instructions, by callgrind.
+use crate::input::{input, Shape};
+use crate::sides::{ours, rust, List};
+use std::process::Command;
+use std::time::Instant;
+
+const BATCHES: usize = 301;
+const BATCH_NANOS: u128 = 60_000;
+
+pub struct Times {
+    pub ours: f64,
+    pub rust: f64,
+}
+
+fn nanos(run: impl Fn(usize) -> bool, times: usize) -> u128 {
+    let start = Instant::now();
+    assert!(run(times), "a side did not end as it has to");
+    start.elapsed().as_nanos()
+}
+
+// How many runs fill a batch.
+fn calibrate(run: &impl Fn(usize) -> bool) -> usize {
+    let mut times = 1;
+    while nanos(run, times) < BATCH_NANOS {
+        times *= 2;
+    }
+    times
+}
+
+fn median(mut all: Vec<f64>) -> f64 {
+    all.sort_by(f64::total_cmp);
+    all[all.len() / 2]
+}
+
+pub fn times(size: usize, shape: Shape, list: List) -> Times {
+    let input = input(size, shape);
+    let a = |n| ours(&input, shape, list, n);
+    let b = |n| rust(&input, shape, list, n);
+    let (na, nb) = (calibrate(&a), calibrate(&b));
+    let mut all = (Vec::new(), Vec::new());
+    for _ in 0..BATCHES {
+        all.0.push(nanos(a, na) as f64 / na as f64);
+        all.1.push(nanos(b, nb) as f64 / nb as f64);
+    }
+    Times {
+        ours: median(all.0),
+        rust: median(all.1),
+    }
+}
+
+// Instructions of one run: two runs of this program under callgrind, one with 1,000 rounds more than the other. None without valgrind.
+pub fn instructions(side: &str, size: usize, shape: Shape, list: List) -> Option<f64> {
+    const ROUNDS: usize = 1000;
+    let counted = |rounds: usize| {
+        let own = std::env::current_exe().ok()?;
+        let out = Command::new("valgrind")
+            .args(["--tool=callgrind", "--callgrind-out-file=/dev/null"])
+            .arg(own)
+            .args([
+                "one",
+                side,
+                &size.to_string(),
+                &format!("{shape:?}"),
+                &format!("{list:?}"),
+            ])
+            .arg(rounds.to_string())
+            .output()
+            .ok()?;
+        let said = String::from_utf8_lossy(&out.stderr).into_owned();
+        let line = said.lines().find(|l| l.contains("Collected :"))?;
+        line.rsplit(' ').next()?.parse::<f64>().ok()
+    };
+    Some((counted(2 * ROUNDS)? - counted(ROUNDS)?) / ROUNDS as f64)
+}

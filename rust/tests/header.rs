@@ -1,0 +1,96 @@
+//! include/liuwdom.h against this package's declarations, and the example in C, compiled and run.
+
+use std::path::PathBuf;
+use std::process::Command;
+
+use liuwdom::records::{self, kind};
+
+const ROOT: &str = concat!(env!("CARGO_MANIFEST_DIR"), "/..");
+const HEADER: &str = include_str!("../../include/liuwdom.h");
+const RAW: &str = include_str!("../src/raw.rs");
+
+// Each name that stands between these two in a text, sorted.
+fn names<'a>(text: &'a str, before: &str, after: char) -> Vec<&'a str> {
+    let mut names: Vec<&str> = text
+        .split(before)
+        .skip(1)
+        .filter_map(|rest| Some(rest.split_once(after)?.0))
+        .collect();
+    names.sort_unstable();
+    names
+}
+
+#[test]
+fn both_declare_the_same_functions() {
+    let mut in_header = names(HEADER, "\nuint64_t liuwdom_", '(');
+    in_header.extend(names(HEADER, "\nbool liuwdom_", '('));
+    in_header.sort_unstable();
+    assert_eq!(in_header.len(), 16);
+    assert_eq!(in_header, names(RAW, "pub fn liuwdom_", '('));
+}
+
+fn defined(name: &str) -> u64 {
+    let line = format!("#define LIUWDOM_{name} ");
+    let rest = HEADER.split_once(&line).unwrap().1;
+    let number = rest.split_whitespace().next().unwrap();
+    number.parse().unwrap()
+}
+
+#[test]
+fn both_have_the_same_constants() {
+    let lengths = ["ANSWER", "BOARD", "PREPARED", "PRINTED", "OUTPUT"].map(defined);
+    let ours = [
+        records::ANSWER,
+        records::BOARD,
+        records::PREPARED,
+        records::PRINTED,
+        records::OUTPUT,
+    ];
+    assert_eq!(lengths, ours.map(|length| length as u64));
+    assert_eq!(defined("NOT_PREPARED"), records::NOT_PREPARED);
+    assert_eq!(defined("NO_ROOM"), records::NO_ROOM);
+    let kinds = ["NOTHING", "FLAG", "WHOLE", "REAL"].map(defined);
+    let ours = [kind::NOTHING, kind::FLAG, kind::WHOLE, kind::REAL];
+    assert_eq!(kinds, ours);
+    let kinds = ["SPEC_TEXT", "CALL_TEXT", "HANDLE", "ARGS", "KWARGS"].map(defined);
+    let ours = [
+        kind::SPEC_TEXT,
+        kind::CALL_TEXT,
+        kind::HANDLE,
+        kind::ARGS,
+        kind::KWARGS,
+    ];
+    assert_eq!(kinds, ours);
+}
+
+fn archive() -> PathBuf {
+    let folder = std::env::var_os("LIUWDOM_LIB_DIR").map(PathBuf::from);
+    let folder = folder.unwrap_or(PathBuf::from(ROOT).join("target/staticlib"));
+    folder.join("libliuwdom.a")
+}
+
+// Needs a C compiler; without one there is nothing to run.
+#[test]
+fn the_example_in_c_prints_the_sheet_of_01() {
+    let program = PathBuf::from(env!("CARGO_TARGET_TMPDIR")).join("water");
+    let mut compiler = Command::new("cc");
+    compiler
+        .current_dir(ROOT)
+        .args(["-Wall", "-Wextra", "-Werror", "-pedantic", "-std=c99"])
+        .args(["-Iinclude", "examples/water.c"])
+        .arg(archive())
+        .arg("-o")
+        .arg(&program);
+    let Ok(compiled) = compiler.status() else {
+        eprintln!("no C compiler: examples/water.c was not compiled");
+        return;
+    };
+    assert!(compiled.success());
+    let output = Command::new(program).output().unwrap();
+    let printed = String::from_utf8(output.stdout).unwrap();
+    let sheet = std::fs::read(format!("{ROOT}/examples/water.sheet")).unwrap();
+    let bound = String::from_utf8(liuwdom::bind_sheet(&sheet)).unwrap();
+    // By its record and by the prepared list.
+    assert_eq!(printed.matches(&bound).count(), 2, "{printed}");
+    assert!(printed.ends_with("refused,21,start\n"), "{printed}");
+}
