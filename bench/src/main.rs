@@ -7,7 +7,7 @@ mod sides;
 mod time;
 
 use input::{input, Shape, SHAPES};
-use sides::{ours, rust, List};
+use sides::{with_ours, with_rust, List};
 use std::io::Read;
 use time::{instructions, times};
 
@@ -19,7 +19,7 @@ fn reason(shape: Shape, list: List) -> &'static str {
     match (list, shape) {
         (List::Cold, _) => "builder by value (a form of 01)",
         (_, Shape::Positional) => "cells are asked each time: 9 to 14, and whether they are a prepared list",
-        (_, _) => "plain search for names (a form of 01), in lookup and in 12, 13; cells are asked each time",
+        (_, _) => "plain search for names (a form of 01); cells are asked each time",
     }
 }
 
@@ -103,12 +103,13 @@ fn one(words: &[String]) -> Option<()> {
     let shape = SHAPES.into_iter().find(|s| format!("{s:?}") == *shape)?;
     let list = LISTS.into_iter().find(|l| format!("{l:?}") == *list)?;
     let input = input(size.parse().ok().filter(|n| (1..=64).contains(n))?, shape);
-    let run = match side.as_str() {
-        "ours" => ours,
-        "rust" => rust,
+    let times = times.parse().ok()?;
+    let right = match side.as_str() {
+        "ours" => with_ours(&input, shape, list, |run| run(times)),
+        "rust" => with_rust(&input, shape, list, |run| run(times)),
         _ => return None,
     };
-    run(&input, shape, list, times.parse().ok()?).then_some(())
+    right.then_some(())
 }
 
 fn main() {

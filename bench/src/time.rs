@@ -1,6 +1,6 @@
 // How long a side takes: the median over many batches, ours and the Rust's by turns; and how many instructions, by callgrind.
 use crate::input::{input, Shape};
-use crate::sides::{ours, rust, List};
+use crate::sides::{with_ours, with_rust, List, Run};
 use std::process::Command;
 use std::time::Instant;
 
@@ -12,14 +12,14 @@ pub struct Times {
     pub rust: f64,
 }
 
-fn nanos(run: impl Fn(usize) -> bool, times: usize) -> u128 {
+fn nanos(run: Run, times: usize) -> u128 {
     let start = Instant::now();
     assert!(run(times), "a side did not end as it has to");
     start.elapsed().as_nanos()
 }
 
 // How many runs fill a batch.
-fn calibrate(run: &impl Fn(usize) -> bool) -> usize {
+fn calibrate(run: Run) -> usize {
     let mut times = 1;
     while nanos(run, times) < BATCH_NANOS {
         times *= 2;
@@ -32,20 +32,23 @@ fn median(mut all: Vec<f64>) -> f64 {
     all[all.len() / 2]
 }
 
+// Both sides stand ready before the first batch, so nothing but the calls is timed.
 pub fn times(size: usize, shape: Shape, list: List) -> Times {
     let input = input(size, shape);
-    let a = |n| ours(&input, shape, list, n);
-    let b = |n| rust(&input, shape, list, n);
-    let (na, nb) = (calibrate(&a), calibrate(&b));
-    let mut all = (Vec::new(), Vec::new());
-    for _ in 0..BATCHES {
-        all.0.push(nanos(a, na) as f64 / na as f64);
-        all.1.push(nanos(b, nb) as f64 / nb as f64);
-    }
-    Times {
-        ours: median(all.0),
-        rust: median(all.1),
-    }
+    with_ours(&input, shape, list, |a| {
+        with_rust(&input, shape, list, |b| {
+            let (na, nb) = (calibrate(a), calibrate(b));
+            let mut all = (Vec::new(), Vec::new());
+            for _ in 0..BATCHES {
+                all.0.push(nanos(a, na) as f64 / na as f64);
+                all.1.push(nanos(b, nb) as f64 / nb as f64);
+            }
+            Times {
+                ours: median(all.0),
+                rust: median(all.1),
+            }
+        })
+    })
 }
 
 // Instructions of one run: two runs of this program under callgrind, one with 1,000 rounds more than the other. None without valgrind.
