@@ -18,7 +18,9 @@ const LISTS: [List; 2] = [List::Cold, List::Prepared];
 fn reason(shape: Shape, list: List) -> &'static str {
     match (list, shape) {
         (List::Cold, _) => "builder by value (a form of 01)",
-        (_, Shape::Positional) => "cells are asked each time: 9 to 14, and whether they are a prepared list",
+        (_, Shape::Positional) => {
+            "cells are asked each time: 9 to 14, and whether they are a prepared list"
+        }
         (_, _) => "plain search for names (a form of 01); cells are asked each time",
     }
 }
