@@ -1,7 +1,7 @@
 //! Collection and can-fill, with Rust's own types.
 
 use crate::call::{named_in, pair, values_in, Call};
-use crate::records::{self, kind, Counts, Pair, BOARD, PAIR, VALUE};
+use crate::records::{self, kind, Counts, Pair, Record, BOARD, PAIR, VALUE};
 use crate::refusal::Refusal;
 use crate::signature::Signature;
 use crate::value::{Areas, Value};
@@ -88,19 +88,32 @@ pub fn collect(signature: &Signature, call: &Call) -> Result<Bound, Refusal> {
     let spec = signature.record();
     let given = call.record();
     let mut board = [0; BOARD];
+    let counts = collect_records(&spec, &given, &mut board)?;
     let areas = Areas {
         spec: &spec.area,
         call: &given.area,
     };
-    records::collect_cells(
-        &spec.cells,
-        areas.spec,
-        &given.cells,
-        areas.call,
-        &mut board,
-    )
-    .map(|counts| Bound::read(counts, signature.parameters(), &board, areas))
-    .map_err(|refused| Refusal::of(refused, areas.spec, areas.call))
+    Ok(Bound::read(counts, signature.parameters(), &board, areas))
+}
+
+/// Binds a call's record to a parameter list's, into a lent board of at least [`BOARD`] cells (1 to 24). A refusal leaves the board as it was.
+///
+/// ```
+/// use liuwdom::{collect_records, records::BOARD, Call, Refusal, Signature};
+///
+/// let water = Signature::new("water").required("block").slash().required("start").record();
+/// let mut board = [7; BOARD];
+/// let refused = collect_records(&water, &Call::new().positional("B3").record(), &mut board);
+/// assert_eq!(refused, Err(Refusal::Missing { name: b"start".to_vec() }));
+/// assert_eq!(board, [7; BOARD]);
+///
+/// let counts = collect_records(&water, &Call::new().positional("B3").named("start", 400).record(), &mut board)?;
+/// assert_eq!((counts.taken, board[2..4].to_vec(), board[4]), (2, vec![3, 400], 7));
+/// # Ok::<(), Refusal>(())
+/// ```
+pub fn collect_records(spec: &Record, call: &Record, board: &mut [u64]) -> Result<Counts, Refusal> {
+    records::collect_cells(&spec.cells, &spec.area, &call.cells, &call.area, board)
+        .map_err(|refused| Refusal::of(refused, &spec.area, &call.area))
 }
 
 /// Whether the written arguments of a call fill a parameter list; what stands behind `*` and `**` is not looked at (1 to 11).

@@ -17,7 +17,7 @@ pub mod sheet;
 mod signature;
 mod value;
 
-pub use bound::{can_fill, collect, Bound, Slot};
+pub use bound::{can_fill, collect, collect_records, Bound, Slot};
 pub use call::{Call, Double, Key, Star};
 pub use prepared::Prepared;
 pub use reader::Slots;
