@@ -34,7 +34,7 @@ module _ (A : ℕ) (area : List ℕ) (s : Style) (before : List Parameter) (t : 
 
   -- a step that adds a parameter and may stand here is asked 6 and 7
   module _ (k : ParameterKind) (e : act t ≡ adds k) (m : mayStand s (adds k) ≡ true) where
-    askStep-adds
+    pub askStep-adds
         : askStep A area s before t
         ≡ ask 6 (ltb (length before) A)
         then ask 7 (nameIsNew area s before (adds k) (t .name))
@@ -43,12 +43,6 @@ module _ (A : ℕ) (area : List ℕ) (s : Style) (before : List Parameter) (t : 
 
     pub askStep-6 : A ≤ length before → askStep A area s before t ≡ refuse 6 noDetail
     askStep-6 h = askStep-adds ∙ rw (le-ltb (length before) A h)
-
-    pub askStep-7
-        : length before < A
-        → nameIsNew area s before (adds k) (t .name) ≡ false
-        → askStep A area s before t ≡ refuse 7 noDetail
-    askStep-7 h n = askStep-adds ∙ rw (lt-ltb (length before) A h, n)
 
     pub askStep-fine
         : length before < A

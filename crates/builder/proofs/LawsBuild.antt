@@ -44,40 +44,41 @@ module _ (cells area : List ℕ) (m : ℕ) where
         built = h .built area;
       }
 
-  module _ (b : ParametersSpecBuilder) (i : ℕ) (left : Left cells area m b i) where
-    pub left-end : m ≤ i → Taking cells area (record { answer = Fine; builder = b })
-    left-end h =
+  pub left-end : (r : Stepped) (i : ℕ) → r .answer ≡ Fine → Left cells area m (r .builder) i → m ≤ i → Taking cells area r
+  left-end r i a left h =
+      record {
+        answer = ap answerOf a ∙ sym (left .asks ∙ rw (listed-end (stepAt cells) i m h));
+        list = λ e. sym (left .list ∙ rw (listed-end (stepAt cells) i m h) (append-nil (listIn area (r .builder))));
+        built = left .built;
+      }
+
+  module _
+      (b : ParametersSpecBuilder) (i : ℕ) (left : Left cells area m b i) (h : i < m)
+      (t : RecordStep) (e : t ≡ stepAt cells i) (r : Stepped) (s : Stepping area b t r) where
+    -- the questions and the parameters of step i and of those after it
+    asks-next
+        : askSteps 64 area posOnly [] (readParameters cells .steps)
+        ≡ answerOf (r .answer)
+        then askSteps 64 area (nextStyle (styleIn b) (act t))
+        (listIn area b ++ added area (styleIn b) (act t) (t .name))
+        (listed (stepAt cells) (i + 1) (m - (i + 1)))
+    asks-next = left .asks ∙ rw (listed-next (stepAt cells) i m h, ← e, ← s .answer)
+
+    pub left-stop : (n : ℕ) → r .answer ≡ Refused n → Taking cells area r
+    left-stop n a =
         record {
-          answer = sym (left .asks ∙ rw (listed-end (stepAt cells) i m h));
-          list = λ e. sym (left .list ∙ rw (listed-end (stepAt cells) i m h) (append-nil (listIn area b)));
-          built = left .built;
+          answer = rw a (sym (asks-next ∙ rw a));
+          list = λ f. never-fine n (sym a ∙ f);
+          built = s .built (left .built);
         }
 
-    module _ (h : i < m) (t : RecordStep) (e : t ≡ stepAt cells i) (r : Stepped) (s : Stepping area b t r) where
-      -- the questions and the parameters of step i and of those after it
-      asks-next
-          : askSteps 64 area posOnly [] (readParameters cells .steps)
-          ≡ answerOf (r .answer)
-          then askSteps 64 area (nextStyle (styleIn b) (act t))
-          (listIn area b ++ added area (styleIn b) (act t) (t .name))
-          (listed (stepAt cells) (i + 1) (m - (i + 1)))
-      asks-next = left .asks ∙ rw (listed-next (stepAt cells) i m h, ← e, ← s .answer)
-
-      pub left-stop : (n : ℕ) → r .answer ≡ Refused n → Taking cells area r
-      left-stop n a =
-          record {
-            answer = rw a (sym (asks-next ∙ rw a));
-            list = λ f. never-fine n (sym a ∙ f);
-            built = s .built (left .built);
-          }
-
-      pub left-next : r .answer ≡ Fine → Left cells area m (r .builder) (i + 1)
-      left-next a =
-          record {
-            asks = asks-next ∙ rw (a, ← s .style a, ← s .list a);
-            list = left .list ∙ rw (listed-next (stepAt cells) i m h, ← e, ← s .style a, s .list a, append-assoc);
-            built = s .built (left .built);
-          }
+    pub left-next : r .answer ≡ Fine → Left cells area m (r .builder) (i + 1)
+    left-next a =
+        record {
+          asks = asks-next ∙ rw (a, ← s .style a, ← s .list a);
+          list = left .list ∙ rw (listed-next (stepAt cells) i m h, ← e, ← s .style a, s .list a, append-assoc);
+          built = s .built (left .built);
+        }
 
 -- ---- questions 1 to 8
 

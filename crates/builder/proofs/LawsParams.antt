@@ -1,7 +1,7 @@
 -- Laws of the parameters as the code holds them, in this order: a style's number gives the style back; which parameters are nameable; one
 -- more parameter at the end of the columns; a search over them. Assumes nothing.
 use mathlib.Core.Path.{_≡_, refl, sym, ap, _∙_}
-use mathlib.Core.Bool.{Bool, true, false, _&&_}
+use mathlib.Core.Bool.{Bool, true, false, _&&_, and-comm}
 use mathlib.Core.List.{List, [], _∷_, _++_, map}
 use Prim.Native.Nat.{ℕ, zero, suc, _+_, _<_, _≤_}
 use native.Mathlib.Omega.{arith}
@@ -9,12 +9,14 @@ use native.Mathlib.Decide.{decLe}
 use mathlib.Core.Logic.{_⊎_, ⊎-elim}
 use lib.ListN.{length, getD, set, length-map}
 use lib.Seq.{getD-set-same, getD-set-other}
+use Rattle.rules.specs.Listing.{any}
 use Rattle.rules.specs.Text.{sameBytes, bytesAt, textIn}
-use Rattle.rules.specs.Lookup.{names}
+use Rattle.rules.specs.Lookup.{names, known}
 use Rattle.rules.specs.Value.{Value, noValue}
 use Rattle.rules.specs.Parameters.{Style, posOnly, posOrNamed, namedOnly, noMore, rank, actOf, plain, takesName, nameable}
 use Rattle.builder.specs.declared.params.Parameters.{Parameters}
-use Rattle.builder.specs.Params.{styleFor, kindFor, parameterOf, parameterAt, parametersIn, mayBeNamed}
+use Rattle.cells.specs.Listed.{listed}
+use Rattle.builder.specs.Params.{styleFor, kindFor, parameterOf, parameterAt, parametersIn, mayBeNamed, namedAt, knownIn}
 use Rattle.builder.proofs.LawsCodes.{code-0, plain-code, plain-above}
 use Rattle.cells.proofs.LawsListed.{listed-more, listed-same, snoc-same}
 
@@ -132,11 +134,33 @@ unfolding names parameterAt parameterOf textIn
 names-at area bytes p i =
     ap (λ (b : Bool). b && sameBytes bytes (bytesAt area (getD (p .names) i 0))) (nameable-at area p i)
 
--- the same from the answers to the two tests: a where it can be named, b where the bytes x of its name are these
-module _ (area bytes : List ℕ) (p : Parameters) (i : ℕ) {a : Bool} (ea : a ≡ mayBeNamed (getD (p .codes) i 0) (getD (p .styles) i 0)) where
-  pub names-style : a ≡ false → names bytes (parameterAt area p i) ≡ false
-  names-style fa = names-at area bytes p i ∙ rw (← ea, fa)
+-- the parameter at an index has these bytes and can be named, from the answers to the two tests: a for the bytes x of its name, b for the rest
+module _
+    (area codes styles names bytes : List ℕ) (i : ℕ) {a : Bool} {x : List ℕ}
+    (ex : x ≡ bytesAt area (getD names i 0)) (ea : a ≡ sameBytes bytes x) where
+  pub named-other : a ≡ false → namedAt area codes styles names bytes i ≡ false
+  unfolding namedAt
+  named-other fa = rw (← ex, ← ea, fa)
 
-  pub names-bytes
-      : {b : Bool} {x : List ℕ} → a ≡ true → x ≡ bytesAt area (getD (p .names) i 0) → b ≡ sameBytes bytes x → names bytes (parameterAt area p i) ≡ b
-  names-bytes ta ex eb = names-at area bytes p i ∙ rw (← ea, ta, ← ex, eb)
+  pub named-same : {b : Bool} → a ≡ true → b ≡ mayBeNamed (getD codes i 0) (getD styles i 0) → namedAt area codes styles names bytes i ≡ b
+  unfolding namedAt
+  named-same ta eb = rw (← ex, ← ea, ta, ← eb)
+
+-- a search over the columns is one over the list that they are
+module _ (area bytes : List ℕ) (p : Parameters) where
+  known-from
+      : (i n : ℕ)
+      → any (names bytes) (listed (parameterAt area p) i n)
+      ≡ any (namedAt area (p .codes) (p .styles) (p .names) bytes) (listed (λ j. j) i n)
+  unfolding namedAt
+  known-from i zero = refl
+  known-from i (suc n) =
+      rw (
+        known-from (suc i) n,
+        names-at area bytes p i,
+        and-comm (mayBeNamed (getD (p .codes) i 0) (getD (p .styles) i 0)) (sameBytes bytes (bytesAt area (getD (p .names) i 0))),
+      )
+
+  pub known-columns : known (parametersIn area p) bytes ≡ knownIn area (p .codes) (p .styles) (p .names) (p .len) bytes
+  unfolding known knownIn parametersIn
+  known-columns = known-from 0 (p .len)

@@ -1,7 +1,8 @@
 -- Laws of the builder's steps, in this order: the promise of a step from its answer; the marks; a step that adds a parameter, refused and
--- taken, with the counts and indices after it; the three ways to add; a code refused against the style. Assumes nothing.
+-- taken, with the counts and indices after it; a parameter stored in the columns; 6 and 7 of a plain one, over the columns; the three ways to
+-- add; a code refused against the style. Assumes nothing.
 use mathlib.Core.Path.{_≡_, refl, sym, ap, subst, _∙_}
-use mathlib.Core.Bool.{true, false, cond, false≢true}
+use mathlib.Core.Bool.{Bool, true, false, cond, false≢true}
 use mathlib.Core.List.{List, [], _∷_, _++_, append-nil}
 use mathlib.Core.Option.{Option, none, some}
 use types.Run.{OneOf, miss}
@@ -10,23 +11,27 @@ use Prim.Native.Nat.{ℕ, _+_, _<_, _≤_}
 use native.Mathlib.Nat.{zero-add}
 use native.Mathlib.Omega.{arith}
 use lib.ListN.{length}
-use Rattle.rules.specs.Answer.{fine, refuse, none as noDetail}
+use lib.Dec.{ltb}
+use borrow.Author.Tests.{ltb-true}
+use Rattle.rules.specs.Answer.{Answer, fine, refuse, ask, _then_, none as noDetail}
 use Rattle.rules.specs.Text.{textIn}
 use Rattle.rules.specs.ParameterRecord.{Step as RecordStep}
-use Rattle.rules.specs.Parameters.{Style, posOnly, posOrNamed, namedOnly, noMore, ParameterKind, required, args, kwargs, adds, slash, bareStar, act, actOf, mayStand, nextStyle, Parameter, plain, takesPosition, comesBefore, positional, positionalOnly, isArgs, isKwargs, added, positionalOnlyCount, positionalCount, argsIndex, kwargsIndex}
+use Rattle.rules.specs.Parameters.{Style, posOnly, posOrNamed, namedOnly, noMore, ParameterKind, args, kwargs, adds, slash, bareStar, act, actOf, mayStand, nextStyle, Parameter, rank, takesPosition, comesBefore, positional, positionalOnly, isArgs, isKwargs, added, positionalOnlyCount, positionalCount, argsIndex, kwargsIndex}
 use Rattle.rules.specs.ParameterQuestions.{nameIsNew, askStep}
 use Rattle.builder.specs.declared.params.CurrentParameterStyle.{CurrentParameterStyle}
 use Rattle.builder.specs.declared.params.CurrentParameterStyle.the-variants.{PosOnly, PosOrNamed, NamedOnly, NoMore}
+use Rattle.builder.specs.declared.params.Parameters.{Parameters}
 use Rattle.builder.specs.declared.params.Step.{Step}
 use Rattle.builder.specs.declared.spec.Index.the-variants.{At, Absent}
 use Rattle.cells.specs.declared.answer.Answer.the-variants.{Fine, Refused}
 use Rattle.builder.specs.declared.spec.ParametersSpecBuilder.{ParametersSpecBuilder}
-use Rattle.builder.specs.Params.{styleOf, kindFor, stepOf, parametersIn, Pushed}
-use Rattle.builder.specs.Spec.{SoFar, Built, Stepping, refusedBy, underStyle, styleIn, listIn, indexOf}
+use Rattle.builder.specs.Params.{styleOf, kindFor, stepOf, parametersIn, parameterOf, newIn, askAdding}
+use Rattle.builder.specs.Spec.{SoFar, Built, Longer, Stepping, refusedBy, underStyle, styleIn, paramsOf, listIn, indexOf}
 use Rattle.builder.proofs.params.CurrentParameterStyle.{the-type}
 use Rattle.cells.proofs.LawsListed.{length-listed, tally-snoc, first-snoc, orFirst}
-use Rattle.builder.proofs.LawsCodes.{code-8, mayStand-star}
-use Rattle.builder.proofs.LawsAsk.{askStep-5, askStep-slash, askStep-star, askStep-6, askStep-7, askStep-fine, mayStand-plain, nextStyle-plain, isArgs-plain, isKwargs-plain, act-code, act-plain, kind-plain}
+use Rattle.builder.proofs.LawsCodes.{code-0, code-8}
+use Rattle.builder.proofs.LawsParams.{Room, stored, stored-list, styleFor-rank, known-columns}
+use Rattle.builder.proofs.LawsAsk.{askStep-5, askStep-slash, askStep-star, askStep-adds, askStep-6, askStep-fine, mayStand-plain, nextStyle-plain, isArgs-plain, isKwargs-plain, act-code, act-plain, kind-plain}
 
 -- ---- the promise of a step
 
@@ -36,9 +41,9 @@ never-fine n e = let z : _≡_ {A = ℕ} 0 1 = cc in absurd (omega arith)
 pub never-refused : {X : Type 0} (n : ℕ) → Fine ≡ Refused n → X
 never-refused n e = let z : _≡_ {A = ℕ} 0 1 = cc in absurd (omega arith)
 
-pub length-parametersIn : (area : List ℕ) (b : ParametersSpecBuilder) → length (listIn area b) ≡ b .params .len
+pub length-parametersIn : (area : List ℕ) (b : ParametersSpecBuilder) → length (listIn area b) ≡ b .len
 unfolding parametersIn
-length-parametersIn area b = length-listed _ 0 (b .params .len)
+length-parametersIn area b = length-listed _ 0 (b .len)
 
 module _ (area : List ℕ) (b : ParametersSpecBuilder) (t : RecordStep) where
   pub stepping-refused
@@ -140,50 +145,47 @@ stepping-star area b t s e =
 module _
     (area : List ℕ) (b : ParametersSpecBuilder) (s : Step) (k : ParameterKind)
     (e : act (stepOf s) ≡ adds k) (m : mayStand (styleIn b) (adds k) ≡ true) where
-  pub adding-6 : 64 ≤ b .params .len → Stepping area b (stepOf s) (refusedBy 6 b)
+  pub adding-6 : 64 ≤ b .len → Stepping area b (stepOf s) (refusedBy 6 b)
   adding-6 h =
       stepping-refused area b (stepOf s) 6
       (askStep-6 64 area (styleIn b) (listIn area b) (stepOf s) k e m (rw length-parametersIn h))
 
-  pub adding-7
-      : b .params .len < 64
-      → nameIsNew area (styleIn b) (listIn area b) (adds k) (s .name) ≡ false
-      → Stepping area b (stepOf s) (refusedBy 7 b)
+  -- 6 and 7 are answered well
+  adding-asked
+      : b .len < 64
+      → nameIsNew area (styleIn b) (listIn area b) (adds k) (s .name) ≡ true
+      → askStep 64 area (styleIn b) (listIn area b) (stepOf s) ≡ fine
   unfolding stepOf
-  adding-7 h n =
-      stepping-refused area b (stepOf s) 7
-      (askStep-7 64 area (styleIn b) (listIn area b) (stepOf s) k e m (rw length-parametersIn h) n)
+  adding-asked h n = askStep-fine 64 area (styleIn b) (listIn area b) (stepOf s) k e m (rw length-parametersIn h) n
 
   -- the parameter added
   abbrev pub newest : Parameter
   newest = record { kind = k; style = styleIn b; name = textIn area (s .name) }
 
-  module _ (b' : ParametersSpecBuilder) (p : Pushed (b .params) (b .«current_style») s (b' .params)) where
+  module _ (b' : ParametersSpecBuilder) (p : Longer b s b') where
     list-newest : listIn area b' ≡ listIn area b ++ newest ∷ []
-    unfolding act stepOf
     list-newest = p .list area ∙ rw e
 
     pub adding-fine
-        : b .params .len < 64
-        → nameIsNew area (styleIn b) (listIn area b) (adds k) (s .name) ≡ true
+        : askStep 64 area (styleIn b) (listIn area b) (stepOf s) ≡ fine
         → styleIn b' ≡ nextStyle (styleIn b) (adds k)
         → (Built area b → Built area b')
         → Stepping area b (stepOf s) (record { answer = Fine; builder = b' })
     unfolding stepOf
-    adding-fine h n style built =
+    adding-fine asked style built =
         stepping-fine area b (stepOf s) b'
-        (askStep-fine 64 area (styleIn b) (listIn area b) (stepOf s) k e m (rw length-parametersIn h) n)
+        asked
         (rw e style)
         (list-newest ∙ rw e)
         built
 
     -- counts and indices that took in the newest parameter are those of the longer list
     pub built-newest
-        : b .params .len < 64
+        : b .len < 64
         → b' .«positional_only» ≡ cond (positionalOnly newest) (b .«positional_only» + 1) (b .«positional_only»)
         → b' .positional ≡ cond (positional newest) (b .positional + 1) (b .positional)
-        → indexOf (b' .args) ≡ orFirst (indexOf (b .args)) (isArgs k) (b .params .len)
-        → indexOf (b' .kwargs) ≡ orFirst (indexOf (b .kwargs)) (isKwargs k) (b .params .len)
+        → indexOf (b' .args) ≡ orFirst (indexOf (b .args)) (isArgs k) (b .len)
+        → indexOf (b' .kwargs) ≡ orFirst (indexOf (b .kwargs)) (isKwargs k) (b .len)
         → SoFar (styleIn b') b'
         → Built area b
         → Built area b'
@@ -198,15 +200,58 @@ module _
           sofar = sofar;
         }
 
+-- ---- a parameter stored in the columns, under the number n of the style so far
+
+pub longer-stored
+    : (b b' : ParametersSpecBuilder) (s : Step) (n : ℕ)
+    → n ≡ rank (styleIn b)
+    → Room (paramsOf b) (b .len)
+    → paramsOf b' ≡ stored (paramsOf b) (s .code) n (s .name) (stepOf s .default)
+    → Longer b s b'
+unfolding act stepOf parameterOf
+longer-stored b b' s n e room same =
+    record {
+      len = ap (λ (p : Parameters). p .len) same;
+      list = λ area.
+          rw (same, stored-list area (paramsOf b) (s .code) n (s .name) (stepOf s .default) room, e, styleFor-rank (styleIn b));
+    }
+
+-- ---- 6 and 7 of a plain parameter, over the columns
+
+pub asked-plain
+    : (area : List ℕ) (b : ParametersSpecBuilder) (s : Step)
+    → 1 ≤ s .code
+    → s .code < 4
+    → comesBefore (styleIn b) noMore ≡ true
+    → askStep 64 area (styleIn b) (listIn area b) (stepOf s)
+    ≡ askAdding area (b .codes) (b .styles) (b .names) (b .len) (styleIn b) (s .name)
+unfolding stepOf
+asked-plain area b s l u m =
+    let pk = kind-plain s l u in
+    askStep-adds 64 area (styleIn b) (listIn area b) (stepOf s) (kindFor (act (stepOf s))) (act-plain s l u)
+    (mayStand-plain (styleIn b) (kindFor (act (stepOf s))) pk ∙ m)
+    ∙ rw (length-parametersIn, pk, known-columns)
+
+-- where they are answered well there is room
+pub asked-room
+    : (area : List ℕ) (b : ParametersSpecBuilder) (s : Step)
+    → askAdding area (b .codes) (b .styles) (b .names) (b .len) (styleIn b) (s .name) ≡ fine
+    → b .len < 64
+asked-room area b s e = go (ltb (b .len) 64) refl (ask 7 (newIn area (b .codes) (b .styles) (b .names) (b .len) (styleIn b) (s .name))) e
+  where
+    go : (t : Bool) → ltb (b .len) 64 ≡ t → (q : Answer) → (ask 6 t then q) ≡ fine → b .len < 64
+    go true h q f = ltb-true (b .len) 64 h
+    go false h q f = let z : _≡_ {A = ℕ} 0 1 = cc in absurd (omega arith)
+
 -- ---- the three ways to add
 
 -- under a style a plain parameter moves the counts on by one, as far as the style lets it be positional
 add-sofar
     : (s : Style) (b b' : ParametersSpecBuilder)
     → comesBefore s noMore ≡ true
-    → b' .params .len ≡ b .params .len + 1
-    → b' .«positional_only» ≡ cond (comesBefore s posOrNamed) (b .params .len + 1) (b .«positional_only»)
-    → b' .positional ≡ cond (takesPosition s) (b .params .len + 1) (b .positional)
+    → b' .len ≡ b .len + 1
+    → b' .«positional_only» ≡ cond (comesBefore s posOrNamed) (b .len + 1) (b .«positional_only»)
+    → b' .positional ≡ cond (takesPosition s) (b .len + 1) (b .positional)
     → b' .args ≡ b .args
     → b' .kwargs ≡ b .kwargs
     → SoFar s b
@@ -227,30 +272,32 @@ orFirst-false (some j) i = refl
 
 -- a plain parameter, under the style that stays
 pub adding-plain
-    : (area : List ℕ) (b b' : ParametersSpecBuilder) (s : Step) (k : ParameterKind)
-    → act (stepOf s) ≡ adds k
-    → plain k ≡ true
+    : (area : List ℕ) (b b' : ParametersSpecBuilder) (s : Step)
+    → 1 ≤ s .code
+    → s .code < 4
     → comesBefore (styleIn b) noMore ≡ true
-    → b .params .len < 64
-    → nameIsNew area (styleIn b) (listIn area b) (adds required) (s .name) ≡ true
-    → Pushed (b .params) (b .«current_style») s (b' .params)
-    → b' .«positional_only» ≡ cond (comesBefore (styleIn b) posOrNamed) (b .params .len + 1) (b .«positional_only»)
-    → b' .positional ≡ cond (takesPosition (styleIn b)) (b .params .len + 1) (b .positional)
+    → askAdding area (b .codes) (b .styles) (b .names) (b .len) (styleIn b) (s .name) ≡ fine
+    → Longer b s b'
+    → b' .«positional_only» ≡ cond (comesBefore (styleIn b) posOrNamed) (b .len + 1) (b .«positional_only»)
+    → b' .positional ≡ cond (takesPosition (styleIn b)) (b .len + 1) (b .positional)
     → b' .«current_style» ≡ b .«current_style»
     → b' .args ≡ b .args
     → b' .kwargs ≡ b .kwargs
     → Stepping area b (stepOf s) (record { answer = Fine; builder = b' })
 unfolding positionalOnly positional
-adding-plain area b b' s k e pk m h n p only all same star double =
+adding-plain area b b' s l u m asked p only all same star double =
+    let k = kindFor (act (stepOf s)) in
+    let e = act-plain s l u in
+    let pk = kind-plain s l u in
     let stands : mayStand (styleIn b) (adds k) ≡ true = mayStand-plain (styleIn b) k pk ∙ m in
-    adding-fine area b s k e stands b' p h (rw pk n) (ap styleOf same ∙ nextStyle-plain (styleIn b) k pk)
+    adding-fine area b s k e stands b' p (asked-plain area b s l u m ∙ asked) (ap styleOf same ∙ nextStyle-plain (styleIn b) k pk)
     (λ was.
     let so = add-sofar (styleIn b) b b' m (p .len) only all star double (was .sofar) in
-    built-newest area b s k e stands b' p h
+    built-newest area b s k e stands b' p (asked-room area b s asked)
     (rw pk (so .0))
     (rw pk (so .1))
-    (rw (isArgs-plain k pk) (ap indexOf star ∙ orFirst-false (indexOf (b .args)) (b .params .len)))
-    (rw (isKwargs-plain k pk) (ap indexOf double ∙ orFirst-false (indexOf (b .kwargs)) (b .params .len)))
+    (rw (isArgs-plain k pk) (ap indexOf star ∙ orFirst-false (indexOf (b .args)) (b .len)))
+    (rw (isKwargs-plain k pk) (ap indexOf double ∙ orFirst-false (indexOf (b .kwargs)) (b .len)))
     (subst (λ (st : Style). SoFar st b') (sym (ap styleOf same)) (so .2))
     was)
 
@@ -259,22 +306,22 @@ pub adding-args
     : (area : List ℕ) (b b' : ParametersSpecBuilder) (s : Step)
     → act (stepOf s) ≡ adds args
     → comesBefore (styleIn b) namedOnly ≡ true
-    → b .params .len < 64
-    → Pushed (b .params) (b .«current_style») s (b' .params)
+    → b .len < 64
+    → Longer b s b'
     → b' .«positional_only» ≡ b .«positional_only»
     → b' .positional ≡ b .positional
     → styleIn b' ≡ namedOnly
-    → b' .args ≡ At (b .params .len)
+    → b' .args ≡ At (b .len)
     → b' .kwargs ≡ b .kwargs
     → Stepping area b (stepOf s) (record { answer = Fine; builder = b' })
 unfolding positionalOnly positional
 adding-args area b b' s e m h p only all style star double =
-    adding-fine area b s args e m b' p h refl style
+    adding-fine area b s args e m b' p (adding-asked area b s args e m h refl) style
     (λ was.
     let so = sofar-named (styleIn b) b m (was .sofar) in
     built-newest area b s args e m b' p h only all
     (rw (star, so .0))
-    (ap indexOf double ∙ orFirst-false (indexOf (b .kwargs)) (b .params .len))
+    (ap indexOf double ∙ orFirst-false (indexOf (b .kwargs)) (b .len))
     (rw style (double ∙ so .1))
     was)
 
@@ -283,20 +330,20 @@ pub adding-kwargs
     : (area : List ℕ) (b b' : ParametersSpecBuilder) (s : Step)
     → act (stepOf s) ≡ adds kwargs
     → comesBefore (styleIn b) noMore ≡ true
-    → b .params .len < 64
-    → Pushed (b .params) (b .«current_style») s (b' .params)
+    → b .len < 64
+    → Longer b s b'
     → b' .«positional_only» ≡ b .«positional_only»
     → b' .positional ≡ b .positional
     → styleIn b' ≡ noMore
     → b' .args ≡ b .args
-    → b' .kwargs ≡ At (b .params .len)
+    → b' .kwargs ≡ At (b .len)
     → Stepping area b (stepOf s) (record { answer = Fine; builder = b' })
 unfolding positionalOnly positional
 adding-kwargs area b b' s e m h p only all style star double =
-    adding-fine area b s kwargs e m b' p h refl style
+    adding-fine area b s kwargs e m b' p (adding-asked area b s kwargs e m h refl) style
     (λ was.
     built-newest area b s kwargs e m b' p h only all
-    (ap indexOf star ∙ orFirst-false (indexOf (b .args)) (b .params .len))
+    (ap indexOf star ∙ orFirst-false (indexOf (b .args)) (b .len))
     (rw (double, sofar-more (styleIn b) b m (was .sofar)))
     (rw style tt)
     was)
@@ -317,19 +364,21 @@ module _ (area : List ℕ) (b : ParametersSpecBuilder) (s : Step) where
       stepping-5 area b (stepOf s)
       (rw (act-plain s l u) (mayStand-plain (styleIn b) (kindFor (act (stepOf s))) (kind-plain s l u) ∙ rw d))
 
-  pub refused-star
-      : (style : CurrentParameterStyle)
-      → 5 ≤ s .code → s .code < 7 → b .«current_style» ≡ style
-      → comesBefore (styleOf style) namedOnly ≡ false
-      → Stepping area b (stepOf s) (refusedBy 5 b)
-  refused-star style l u d m =
+  pub refused-below : s .code < 1 → Stepping area b (stepOf s) (refusedBy 5 b)
+  refused-below u =
       stepping-5 area b (stepOf s)
-      (rw (act-code s (s .code) refl) (mayStand-star (stepOf s .default) (styleIn b) (s .code) l u ∙ rw d m))
+      (rw (act-code s (s .code) refl, code-0 (stepOf s .default) (s .code) u))
 
-  pub refused-above : 8 ≤ s .code → Stepping area b (stepOf s) (refusedBy 5 b)
-  refused-above l =
+  pub refused-above
+      : 4 ≤ s .code
+      → (s .code ≡ 4 → ⊥)
+      → (s .code ≡ 5 → ⊥)
+      → (s .code ≡ 6 → ⊥)
+      → (s .code ≡ 7 → ⊥)
+      → Stepping area b (stepOf s) (refusedBy 5 b)
+  refused-above l n₄ n₅ n₆ n₇ =
       stepping-5 area b (stepOf s)
-      (rw (act-code s (s .code) refl, code-8 (s .code) (stepOf s .default) l))
+      (rw (act-code s (s .code) refl, code-8 (s .code) (stepOf s .default) (omega arith)))
 
 -- ---- what an arm for several styles says of the style
 

@@ -1,10 +1,12 @@
 -- The parameters as the code holds them, read as the list of `rules`.
-use mathlib.Core.Bool.{Bool, _&&_}
-use mathlib.Core.List.{List, [], _∷_, _++_}
-use mathlib.Core.Path.{_≡_}
-use Prim.Native.Nat.{ℕ, zero, suc, _+_}
+use mathlib.Core.Bool.{Bool, not, _&&_, _||_}
+use mathlib.Core.List.{List}
+use Prim.Native.Nat.{ℕ, zero, suc}
+use lib.Dec.{ltb}
 use lib.ListN.{getD}
-use Rattle.rules.specs.Text.{textIn}
+use Rattle.rules.specs.Answer.{Answer, ask, _then_}
+use Rattle.rules.specs.Listing.{any}
+use Rattle.rules.specs.Text.{sameBytes, bytesAt, textIn}
 use Rattle.rules.specs.Value.{Value, noValue}
 use Rattle.rules.specs.ParameterRecord.{Step as RecordStep}
 use Rattle.rules.specs.Parameters.{Style, posOnly, posOrNamed, namedOnly, noMore, ParameterKind, kwargs, Act, adds, slash, bareStar, unknownCode, actOf, Parameter, plain, takesName}
@@ -60,11 +62,19 @@ parametersIn area p = listed (parameterAt area p) 0 (p .len)
 unfoldable pub mayBeNamed : ℕ → ℕ → Bool
 mayBeNamed code style = plain (kindFor (actOf code noValue)) && takesName (styleFor style)
 
--- one more parameter at the end
-pub record Pushed (p : Parameters) (style : CurrentParameterStyle) (s : Step) (r : Parameters) : Type 0 where
-  pub len : r .len ≡ p .len + 1
-  pub list
-      : (area : List ℕ)
-      → parametersIn area r
-      ≡ parametersIn area p
-      ++ (record { kind = kindFor (actOf (s .code) (stepOf s .default)); style = styleOf style; name = textIn area (s .name) } ∷ [])
+-- the parameter at an index of the columns is nameable and has these bytes
+unfoldable pub namedAt : List ℕ → List ℕ → List ℕ → List ℕ → List ℕ → ℕ → Bool
+namedAt area codes styles names bytes i = sameBytes bytes (bytesAt area (getD names i 0)) && mayBeNamed (getD codes i 0) (getD styles i 0)
+
+-- one of the first `len` is so
+unfoldable pub knownIn : List ℕ → List ℕ → List ℕ → List ℕ → ℕ → List ℕ → Bool
+knownIn area codes styles names len bytes = any (namedAt area codes styles names bytes) (listed (λ i. i) 0 len)
+
+-- the name of a parameter of codes 1 to 3 is new among them, where the style takes a name
+abbrev pub newIn : List ℕ → List ℕ → List ℕ → List ℕ → ℕ → Style → ℕ → Bool
+newIn area codes styles names len style name = not (takesName style) || not (knownIn area codes styles names len (bytesAt area name))
+
+-- 6 and 7 of a parameter of codes 1 to 3
+abbrev pub askAdding : List ℕ → List ℕ → List ℕ → List ℕ → ℕ → Style → ℕ → Answer
+askAdding area codes styles names len style name =
+    ask 6 (ltb len 64) then ask 7 (newIn area codes styles names len style name)

@@ -46,19 +46,18 @@ fn take_steps(cells: &[u64], area: &[u8]) -> Stepped
     ensures { λ r. ⌜ Taking (now (cells .entry)) (now (area .entry)) r ⌝ }
 {
     let m = step_count(cells);
-    let mut builder = ParametersSpecBuilder::new();
+    let mut stepped = Stepped {
+        answer: Answer::Fine,
+        builder: ParametersSpecBuilder::new(),
+    };
     let mut i = 0;
     while i < m {
-        let stepped = builder.step(area, step_at(cells, i));
+        stepped = stepped.builder.step(area, step_at(cells, i));
         let answer = stepped.answer;
         let Answer::Fine = answer else {
             return stepped;
         };
-        builder = stepped.builder;
         i += 1;
     }
-    Stepped {
-        answer: Answer::Fine,
-        builder,
-    }
+    stepped
 }

@@ -6,10 +6,8 @@ ghost use mathlib.Core.Path.{_≡_};
 ghost use mathlib.Core.Bool.{cond};
 ghost use Prim.Native.Nat.{_+_, _≤_, _<_};
 ghost use Rattle.rules.specs.Text.{bytesAt};
-ghost use Rattle.rules.specs.Parameters.{rank, takesName, takesPosition, comesBefore, posOrNamed, adds, required};
-ghost use Rattle.rules.specs.Lookup.{known};
-ghost use Rattle.rules.specs.ParameterQuestions.{nameIsNew};
-ghost use Rattle.builder.specs.Params.{styleOf, mayBeNamed, parametersIn, Pushed};
+ghost use Rattle.rules.specs.Parameters.{rank, takesName, takesPosition, comesBefore, posOrNamed};
+ghost use Rattle.builder.specs.Params.{styleOf, mayBeNamed, knownIn, newIn};
 
 // The most parameters that a list can hold.
 pub const CAPACITY: usize = 64;
@@ -137,49 +135,48 @@ impl Parameters {
             len: 0,
         }
     }
+}
 
-    // One more parameter at the end.
-    pub(crate) fn push(mut self, style: CurrentParameterStyle, s: Step) -> Self
-        requires { ⌜ self .len < 64 ⌝ }
-        ensures { λ r. ⌜ Pushed self style s r ⌝ }
-    {
-        let at = self.len;
-        self.codes[at] = s.code;
-        self.styles[at] = style.number();
-        self.names[at] = s.name;
-        self.default_kinds[at] = s.default_kind;
-        self.default_payloads[at] = s.default_payload;
-        self.len = at + 1;
-        self
+// Is the name of a parameter that is added under this style new among the nameable ones, if it has to be? The list is lent by its columns.
+pub(crate) fn name_is_new<'a>(
+    area: &'a [u8],
+    codes: &'a [u64; CAPACITY],
+    styles: &'a [u64; CAPACITY],
+    names: &'a [u64; CAPACITY],
+    len: usize,
+    style: CurrentParameterStyle,
+    name: u64,
+) -> bool
+    requires { ⌜ len ≤ 64 ⌝ }
+    ensures { λ r. ⌜ r ≡ newIn (now (area .entry)) (now (codes .entry)) (now (styles .entry)) (now (names .entry)) len (styleOf style) name ⌝ }
+{
+    if style.takes_name() {
+        !known(area, codes, styles, names, len, bytes_at(area, name))
+    } else {
+        true
     }
+}
 
-    // Is the name of a parameter that is added under this style new among the nameable ones, if it has to be?
-    pub(crate) fn name_is_new(self, area: &[u8], style: CurrentParameterStyle, name: u64) -> bool
-        requires { ⌜ self .len ≤ 64 ⌝ }
-        ensures { λ r. ⌜ r ≡ nameIsNew (now (area .entry)) (styleOf style) (parametersIn (now (area .entry)) self) (adds required) name ⌝ }
-    {
-        if style.takes_name() {
-            !self.known(area, bytes_at(area, name))
-        } else {
-            true
-        }
-    }
-
-    // Is there a nameable parameter with these bytes?
-    fn known(self, area: &[u8], bytes: &[u8]) -> bool
-        requires { ⌜ self .len ≤ 64 ⌝ }
-        ensures { λ r. ⌜ r ≡ known (parametersIn (now (area .entry)) self) (now (bytes .entry)) ⌝ }
-    {
-        let mut i = 0;
-        while i < self.len {
-            if nameable(self.codes[i], self.styles[i]) {
-                let name = self.names[i];
-                if same(bytes, bytes_at(area, name)) {
-                    return true;
-                }
+// Is there a nameable parameter with these bytes? Most are told apart by their lengths, so bytes are compared first.
+fn known<'a>(
+    area: &'a [u8],
+    codes: &'a [u64; CAPACITY],
+    styles: &'a [u64; CAPACITY],
+    names: &'a [u64; CAPACITY],
+    len: usize,
+    bytes: &[u8],
+) -> bool
+    requires { ⌜ len ≤ 64 ⌝ }
+    ensures { λ r. ⌜ r ≡ knownIn (now (area .entry)) (now (codes .entry)) (now (styles .entry)) (now (names .entry)) len (now (bytes .entry)) ⌝ }
+{
+    let mut i = 0;
+    while i < len {
+        if same(bytes, bytes_at(area, names[i])) {
+            if nameable(codes[i], styles[i]) {
+                return true;
             }
-            i += 1;
         }
-        false
+        i += 1;
     }
+    false
 }

@@ -4,6 +4,7 @@ use crate::params::CAPACITY;
 use crate::params::CurrentParameterStyle;
 use crate::params::Parameters;
 use crate::params::Step;
+use crate::params::name_is_new;
 use cells::answer::Answer;
 ghost use mathlib.Core.Path.{_≡_};
 ghost use mathlib.Core.Bool.{true};
@@ -11,8 +12,9 @@ ghost use mathlib.Core.List.{List};
 ghost use Prim.Native.Nat.{ℕ, _≤_, _<_};
 ghost use Rattle.rules.specs.ParameterRecord.{Step as RecordStep};
 ghost use Rattle.rules.specs.Parameters.{act, slash, bareStar, comesBefore, posOnly, noMore, namedOnly};
-ghost use Rattle.builder.specs.Params.{stepOf};
-ghost use Rattle.builder.specs.Spec.{styleIn, Empty, NoList, Stepping, Finishing, refusedBy, underStyle};
+ghost use Rattle.cells.specs.Answer.{answerOf};
+ghost use Rattle.builder.specs.Params.{styleOf, stepOf, askAdding};
+ghost use Rattle.builder.specs.Spec.{styleIn, Empty, NoList, Pushed, Stepping, Finishing, refusedBy, withStyle, underStyle};
 
 // A parameter's index, where there is such a parameter.
 pub enum Index {
@@ -20,9 +22,15 @@ pub enum Index {
     Absent,
 }
 
-// The state of a list that is being built.
+// The state of a list that is being built. The parameters are the columns of `Parameters`, one by one: a step stores into them where they
+// stand, and nothing is copied on the way but the state itself.
 pub struct ParametersSpecBuilder {
-    pub params: Parameters,
+    pub codes: [u64; CAPACITY],
+    pub styles: [u64; CAPACITY],
+    pub names: [u64; CAPACITY],
+    pub default_kinds: [u64; CAPACITY],
+    pub default_payloads: [u64; CAPACITY],
+    pub len: usize,
     // Number of parameters that can be filled only positionally.
     pub positional_only: usize,
     // Number of parameters that can be filled positionally.
@@ -88,7 +96,12 @@ impl ParametersSpecBuilder {
         ensures { λ r. ⌜ Empty r ⌝ }
     {
         Self {
-            params: Parameters::new(),
+            codes: [0; CAPACITY],
+            styles: [0; CAPACITY],
+            names: [0; CAPACITY],
+            default_kinds: [0; CAPACITY],
+            default_payloads: [0; CAPACITY],
+            len: 0,
             positional_only: 0,
             positional: 0,
             current_style: CurrentParameterStyle::PosOnly,
@@ -116,8 +129,14 @@ impl ParametersSpecBuilder {
                 CurrentParameterStyle::NamedOnly => self.refused(5), // after `*`
                 CurrentParameterStyle::NoMore => self.refused(5), // after `**kwargs`
             },
-            5..=6 => match style {
-                CurrentParameterStyle::PosOnly | CurrentParameterStyle::PosOrNamed => self.star(s),
+            5 => match style {
+                CurrentParameterStyle::PosOnly | CurrentParameterStyle::PosOrNamed => {
+                    self.no_more_positional_args()
+                }
+                CurrentParameterStyle::NamedOnly | CurrentParameterStyle::NoMore => self.refused(5),
+            },
+            6 => match style {
+                CurrentParameterStyle::PosOnly | CurrentParameterStyle::PosOrNamed => self.args(s),
                 CurrentParameterStyle::NamedOnly | CurrentParameterStyle::NoMore => self.refused(5),
             },
             7 => match style {
@@ -140,17 +159,24 @@ impl ParametersSpecBuilder {
         }
     }
 
-    // The state under another style, with nothing added.
-    fn under(self, style: CurrentParameterStyle) -> Stepped
-        ensures { λ r. ⌜ r ≡ underStyle style self ⌝ }
+    // The state as it is but for the style and the two indices.
+    fn with(self, style: CurrentParameterStyle, args: Index, kwargs: Index) -> Stepped
+        ensures { λ r. ⌜ r ≡ withStyle style args kwargs self ⌝ }
     {
-        let params = self.params;
-        let args = self.args;
-        let kwargs = self.kwargs;
+        let codes = self.codes;
+        let styles = self.styles;
+        let names = self.names;
+        let default_kinds = self.default_kinds;
+        let default_payloads = self.default_payloads;
         Stepped {
             answer: Answer::Fine,
             builder: Self {
-                params,
+                codes,
+                styles,
+                names,
+                default_kinds,
+                default_payloads,
+                len: self.len,
                 positional_only: self.positional_only,
                 positional: self.positional,
                 current_style: style,
@@ -158,6 +184,15 @@ impl ParametersSpecBuilder {
                 kwargs,
             },
         }
+    }
+
+    // The state under another style, with nothing added.
+    fn under(self, style: CurrentParameterStyle) -> Stepped
+        ensures { λ r. ⌜ r ≡ underStyle style self ⌝ }
+    {
+        let args = self.args;
+        let kwargs = self.kwargs;
+        self.with(style, args, kwargs)
     }
 
     // Following parameters can be filled positionally or by name.
@@ -176,45 +211,54 @@ impl ParametersSpecBuilder {
         self.under(CurrentParameterStyle::NamedOnly)
     }
 
-    // The bare `*`, code 5, or `*args`, code 6.
-    fn star(self, s: Step) -> Stepped
-        requires { ⌜ (5 ≤ s .code) × (s .code < 7) × (comesBefore (styleIn self) namedOnly ≡ true) ⌝ }
-        ensures { λ r. ⌜ ((area : List ℕ) → Stepping area self (stepOf s) r) ⌝ }
-    {
-        if s.code == 5 {
-            self.no_more_positional_args()
-        } else {
-            self.args(s)
-        }
-    }
-
-    // A parameter of codes 1 to 3, that is required, optional or defaulted.
-    fn add(self, area: &[u8], s: Step) -> Stepped
+    // A parameter of codes 1 to 3, that is required, optional or defaulted. It is stored here and not by `push`, which would copy the state
+    // once more: most steps are of this kind.
+    fn add(mut self, area: &[u8], s: Step) -> Stepped
         requires { ⌜ (1 ≤ s .code) × (s .code < 4) × (comesBefore (styleIn self) noMore ≡ true) ⌝ }
         ensures { λ r. ⌜ Stepping (now (area .entry)) self (stepOf s) r ⌝ }
     {
         let style = self.current_style;
-        let before = self.params;
-        let i = before.len;
-        if CAPACITY <= i {
-            return self.refused(6);
+        let i = self.len;
+        let asked = may_add(
+            area,
+            &self.codes,
+            &self.styles,
+            &self.names,
+            i,
+            style,
+            s.name,
+        );
+        if let Answer::Refused(question) = asked {
+            return self.refused(question);
         }
-        if !before.name_is_new(area, style, s.name) {
-            return self.refused(7);
-        }
-        let args = self.args;
-        let kwargs = self.kwargs;
+        self.codes[i] = s.code;
+        self.styles[i] = style.number();
+        self.names[i] = s.name;
+        self.default_kinds[i] = s.default_kind;
+        self.default_payloads[i] = s.default_payload;
+        self.len = i + 1;
+        self.positional_only = style.positional_only(i, self.positional_only);
+        self.positional = style.positional(i, self.positional);
         Stepped {
             answer: Answer::Fine,
-            builder: Self {
-                params: before.push(style, s),
-                positional_only: style.positional_only(i, self.positional_only),
-                positional: style.positional(i, self.positional),
-                current_style: style,
-                args,
-                kwargs,
-            },
+            builder: self,
         }
+    }
+
+    // One more parameter at the end, under the style so far; counts, style and indices are as they were.
+    fn push(mut self, s: Step) -> Self
+        requires { ⌜ self .len < 64 ⌝ }
+        ensures { λ r. ⌜ Pushed self s r ⌝ }
+    {
+        let style = self.current_style;
+        let at = self.len;
+        self.codes[at] = s.code;
+        self.styles[at] = style.number();
+        self.names[at] = s.name;
+        self.default_kinds[at] = s.default_kind;
+        self.default_payloads[at] = s.default_payload;
+        self.len = at + 1;
+        self
     }
 
     // `*args`, which takes what positionals are left; following parameters can be filled only by name.
@@ -222,24 +266,13 @@ impl ParametersSpecBuilder {
         requires { ⌜ (s .code ≡ 6) × (comesBefore (styleIn self) namedOnly ≡ true) ⌝ }
         ensures { λ r. ⌜ ((area : List ℕ) → Stepping area self (stepOf s) r) ⌝ }
     {
-        let style = self.current_style;
-        let before = self.params;
-        let index = before.len;
+        let index = self.len;
         if CAPACITY <= index {
             return self.refused(6);
         }
         let kwargs = self.kwargs;
-        Stepped {
-            answer: Answer::Fine,
-            builder: Self {
-                params: before.push(style, s),
-                positional_only: self.positional_only,
-                positional: self.positional,
-                current_style: CurrentParameterStyle::NamedOnly,
-                args: Index::At(index),
-                kwargs,
-            },
-        }
+        let pushed = self.push(s);
+        pushed.with(CurrentParameterStyle::NamedOnly, Index::At(index), kwargs)
     }
 
     // `**kwargs`, which takes what names are left; nothing follows it.
@@ -247,24 +280,13 @@ impl ParametersSpecBuilder {
         requires { ⌜ (s .code ≡ 7) × (comesBefore (styleIn self) noMore ≡ true) ⌝ }
         ensures { λ r. ⌜ ((area : List ℕ) → Stepping area self (stepOf s) r) ⌝ }
     {
-        let style = self.current_style;
-        let before = self.params;
-        let index = before.len;
+        let index = self.len;
         if CAPACITY <= index {
             return self.refused(6);
         }
         let args = self.args;
-        Stepped {
-            answer: Answer::Fine,
-            builder: Self {
-                params: before.push(style, s),
-                positional_only: self.positional_only,
-                positional: self.positional,
-                current_style: CurrentParameterStyle::NoMore,
-                args,
-                kwargs: Index::At(index),
-            },
-        }
+        let pushed = self.push(s);
+        pushed.with(CurrentParameterStyle::NoMore, args, Index::At(index))
     }
 
     // The finished list; 8 is asked here.
@@ -274,13 +296,24 @@ impl ParametersSpecBuilder {
         if self.positional < self.positional_only {
             return ParametersSpec::refused(8);
         }
-        let params = self.params;
+        let codes = self.codes;
+        let styles = self.styles;
+        let names = self.names;
+        let default_kinds = self.default_kinds;
+        let default_payloads = self.default_payloads;
         let args = self.args;
         let kwargs = self.kwargs;
         Finished {
             answer: Answer::Fine,
             list: ParametersSpec {
-                params,
+                params: Parameters {
+                    codes,
+                    styles,
+                    names,
+                    default_kinds,
+                    default_payloads,
+                    len: self.len,
+                },
                 indices: DefParamIndices {
                     num_positional_only: self.positional_only,
                     num_positional: self.positional,
@@ -290,4 +323,25 @@ impl ParametersSpecBuilder {
             },
         }
     }
+}
+
+// 6 and 7 of a parameter of codes 1 to 3: is there room, and is its name new where it has to be? The columns are lent.
+fn may_add<'a>(
+    area: &'a [u8],
+    codes: &'a [u64; CAPACITY],
+    styles: &'a [u64; CAPACITY],
+    names: &'a [u64; CAPACITY],
+    len: usize,
+    style: CurrentParameterStyle,
+    name: u64,
+) -> Answer
+    ensures { λ r. ⌜ answerOf r ≡ askAdding (now (area .entry)) (now (codes .entry)) (now (styles .entry)) (now (names .entry)) len (styleOf style) name ⌝ }
+{
+    if CAPACITY <= len {
+        return Answer::Refused(6);
+    }
+    if !name_is_new(area, codes, styles, names, len, style, name) {
+        return Answer::Refused(7);
+    }
+    Answer::Fine
 }

@@ -82,13 +82,6 @@ module _ {X : Type 0} (width : ℕ) (read : List ℕ → X) (test : X → Bool) 
   pub all-fails : test (read (drop at cells)) ≡ false → all test (readEach width read left (drop at cells)) ≡ false
   all-fails e = each-fails width read (λ x xs. test x) (all test) (λ x xs. refl) cells at left some e
 
--- ---- a test of all is a test of each
-
-pub all-at : {X : Type 0} (test : X → Bool) (xs : List X) (k : ℕ) (x : X) → k < length xs → all test xs ≡ true → test (getD xs k x) ≡ true
-all-at test [] k x h e = absurd (omega arith)
-all-at test (y ∷ ys) zero x h e = and-left (test y) (all test ys) e
-all-at test (y ∷ ys) (suc k) x h e = all-at test ys k x (omega arith) (and-right (test y) (all test ys) e)
-
 -- ---- pairs that are well formed
 
 module _ (test : Pair → Bool) (cells : List ℕ) (at left : ℕ) (some : 0 < left) (h : Formed test cells at left) where

@@ -25,10 +25,9 @@ use Rattle.cells.specs.Listed.{listed}
 use Rattle.calls.specs.Head.{Few, entriesFrom}
 use Rattle.calls.specs.Places.{namedAt}
 use Rattle.calls.specs.Runs.{pairsAt}
-use Rattle.cells.proofs.LawsListed.{elements}
+use Rattle.cells.proofs.LawsListed.{elements, all-at}
 use Rattle.calls.specs.Values.{positionalAt, valuesIn}
 use Rattle.calls.specs.Named.{pairNamed, pairEntry, namesIn, entriesIn}
-use Rattle.calls.proofs.LawsEach.{all-at}
 use Rattle.calls.proofs.LawsForm.{pair-name, entry-key}
 use Rattle.calls.proofs.LawsCall.{lengths-few, lengths-length, form-lengths, form-kinds, form-parts, call-form}
 use Rattle.calls.proofs.LawsPlaces.{positionals-length, named-length, entries-length, entries-run, star-passes, double-passes, positional-at, named-at, entry-at, pair-within, named-formed, entry-formed, N-length, N-at}

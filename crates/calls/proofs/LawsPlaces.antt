@@ -20,7 +20,8 @@ use Rattle.rules.proofs.LawsListing.{and-left, and-right, all-append}
 use Rattle.calls.specs.Head.{namedFrom, itemsFrom, entriesFrom}
 use Rattle.calls.specs.Places.{inRuns, positionAt, namedAt}
 use Rattle.calls.specs.Runs.{valuesAt, pairsAt}
-use Rattle.calls.proofs.LawsEach.{each-length, each-map, all-at, runs-first, runs-second, runs-both, runs-within}
+use Rattle.cells.proofs.LawsListed.{all-at}
+use Rattle.calls.proofs.LawsEach.{each-length, each-map, runs-first, runs-second, runs-both, runs-within}
 use Rattle.calls.proofs.LawsCall.{call-positionals, call-named, call-items, call-entries, lengths-atMost, positionals-within, named-within, items-within, entries-within, parts-positionals, parts-named, parts-items, parts-entries}
 
 -- ---- what question 10 says of a star

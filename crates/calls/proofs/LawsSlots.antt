@@ -1,15 +1,15 @@
 -- Laws of a table with a mark for each slot (01, questions 12 and 13), in this order: the slot of a text; marks stay; what has no mark at its
 -- slot is new; a run of pairs that is walked from its end, whose slots are marked as they are passed. Assumes nothing.
 use mathlib.Core.Path.{_≡_, refl, sym, ap, subst, _∙_}
-use mathlib.Core.Bool.{Bool, true, false, cond, not, _&&_, false≢true}
+use mathlib.Core.Bool.{Bool, true, false, not, _&&_, false≢true}
 use mathlib.Core.List.{List, [], _∷_, _++_}
 use Prim.Native.Nat.{ℕ, zero, suc, _+_, _-_, _*_, _%_, _<_, _≤_}
 use native.Mathlib.Nat.{mul-suc}
 use native.Mathlib.Omega.{arith}
-use lib.Dec.{eqb, ltb}
-use lib.ListN.{length, take, drop, getD, set, length-set, length-drop}
-use lib.Seq.{take-all, drop-drop, getD-set-same, getD-set-other}
-use borrow.Author.Tests.{eqb-true, eqb-false, eq-eqb, ne-eqb, lt-ltb, le-ltb}
+use lib.Dec.{eqb}
+use lib.ListN.{length, drop, getD, set, length-set}
+use lib.Seq.{drop-drop, getD-set-same, getD-set-other}
+use borrow.Author.Tests.{eqb-true, eqb-false, eq-eqb, ne-eqb}
 use Rattle.rules.specs.Listing.{all}
 use Rattle.rules.specs.Cells.{readEach}
 use Rattle.rules.specs.Text.{textIn, sameBytes, among}
@@ -18,7 +18,7 @@ use Rattle.rules.specs.CallRecord.{Pair, pairWidth, readPair, Key, word, number
 use Rattle.rules.specs.CallQuestions.{sameKey}
 use Rattle.rules.proofs.LawsListing.{and-left, and-right, and-both, and-no-left, and-no-right, not-of, all-imp}
 use Rattle.rules.proofs.LawsText.{sameBytes-eq}
-use Rattle.cells.specs.Text.{keyOf, partAt}
+use Rattle.cells.specs.Text.{partAt}
 use Rattle.calls.specs.Runs.{pairsAt, Formed, keysOf, namesOf, newKey}
 use Rattle.calls.specs.Slots.{slots, slotOf, keySlot}
 use Rattle.calls.proofs.LawsEach.{each-next, formed-first, formed-next}
@@ -26,26 +26,9 @@ use Rattle.calls.proofs.LawsKeys.{text-part, key-text, among-first}
 
 -- ---- slots
 
-pub slot-long : (bytes : List ℕ) (front back : ℕ) → 8 < length bytes → front ≡ keyOf bytes → back ≡ keyOf (take (length bytes - (length bytes - 8)) (drop (length bytes - 8) bytes))
-    → (front % 929 + back % 929) % 929 ≡ slotOf bytes
-unfolding slotOf slots
-slot-long bytes front back h e f =
-    rw (lt-ltb 8 (length bytes) h, e, f, take-all (length bytes - (length bytes - 8)) (drop (length bytes - 8) bytes) (rw (length-drop (length bytes - 8) bytes) (omega arith)))
-
-pub slot-short : (bytes : List ℕ) (front : ℕ) → length bytes ≤ 8 → front ≡ keyOf bytes → front % 929 ≡ slotOf bytes
-unfolding slotOf slots
-slot-short bytes front h e = rw (le-ltb 8 (length bytes) h, e)
-
 pub slot-below : (bytes : List ℕ) → slotOf bytes < slots
 unfolding slotOf slots
-slot-below bytes = go (ltb 8 (length bytes))
-  where
-    below : (n : ℕ) → n % 929 < 929
-    below n = omega arith
-
-    go : (b : Bool) → cond b ((keyOf bytes % 929 + keyOf (drop (length bytes - 8) bytes) % 929) % 929) (keyOf bytes % 929) < 929
-    go true = below (keyOf bytes % 929 + keyOf (drop (length bytes - 8) bytes) % 929)
-    go false = below (keyOf bytes)
+slot-below bytes = omega arith
 
 pub keySlot-below : (k : Key) → keySlot k < slots
 unfolding slots

@@ -5,4 +5,5 @@ pub mod LawsForm
 pub mod LawsKeys
 pub mod LawsSlots
 pub mod LawsPlaces
+pub mod LawsWritten
 pub mod LawsNamed

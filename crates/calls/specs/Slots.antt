@@ -1,10 +1,7 @@
 -- The slot of a text and of a key in a small table (01, questions 12 and 13): what is equal has the same slot, so a slot that nothing took
 -- holds nothing equal. Which slot it is matters to speed alone.
-use mathlib.Core.Bool.{cond}
 use mathlib.Core.List.{List}
-use Prim.Native.Nat.{ℕ, _+_, _-_, _%_}
-use lib.Dec.{ltb}
-use lib.ListN.{length, drop}
+use Prim.Native.Nat.{ℕ, _%_}
 use Rattle.rules.specs.CallRecord.{Key, word, number}
 use Rattle.cells.specs.Text.{keyOf}
 
@@ -12,10 +9,9 @@ use Rattle.cells.specs.Text.{keyOf}
 unfoldable pub slots : ℕ
 slots = 929
 
--- by the first eight bytes, and by the last eight too where there are more: names often begin alike, or end alike
+-- by the key of the text
 unfoldable pub slotOf : List ℕ → ℕ
-slotOf bytes =
-    cond (ltb 8 (length bytes)) ((keyOf bytes % slots + keyOf (drop (length bytes - 8) bytes) % slots) % slots) (keyOf bytes % slots)
+slotOf bytes = keyOf bytes % slots
 
 abbrev pub keySlot : Key → ℕ
 keySlot (word t) = slotOf (t .bytes)

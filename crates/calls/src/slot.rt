@@ -10,8 +10,9 @@ ghost use Rattle.cells.specs.Record.{pairAt};
 ghost use Rattle.calls.specs.Runs.{keyThere, nameThere};
 ghost use Rattle.calls.specs.Slots.{slotOf, keySlot};
 
-// Enough that few of 64 names share a slot. A prime, so that each byte of a number counts in its remainder; and one for which two bytes side
-// by side do not make up for each other unless one of them is off by 29: names that differ in two digits have slots of their own.
+// Enough that few of 64 names with keys of their own share a slot. A prime, so that each byte of a number counts in its remainder; and one
+// for which the last two bytes of a name do not make up for each other unless one of them is off by 21 or more: names that differ in two last
+// digits alone have slots of their own.
 pub(crate) const SLOTS: usize = 929;
 
 // The slot of the name at an index.
@@ -35,15 +36,9 @@ pub(crate) fn key_slot(cells: &[u64], area: &[u8], at: usize) -> usize
     (key.payload as usize) % SLOTS
 }
 
-// The slot of a text: by its first bytes, and by its last ones where it is longer.
+// The slot of a text, by its key.
 fn slot_of(bytes: &[u8]) -> usize
     ensures { λ r. ⌜ r ≡ slotOf (now (bytes .entry)) ⌝ }
 {
-    let front = (key_of(bytes) as usize) % SLOTS;
-    let len = bytes.len();
-    if 8 < len {
-        let back = (key_of(&bytes[len - 8..]) as usize) % SLOTS;
-        return (front + back) % SLOTS;
-    }
-    front
+    (key_of(bytes) as usize) % SLOTS
 }

@@ -1,7 +1,7 @@
 -- Laws of lists given by their elements and of what `rules` computes over a list, in this order: how long such a list is; its first
 -- element and the rest; one more element at the end; equal elements; counts and first indices after one more element at the end;
--- tests of all or any of the elements, as a loop over the list asks for them; a list that has these elements. Assumes nothing.
-use mathlib.Core.Path.{_≡_, refl, ap, ap₂, _∙_}
+-- tests of all or any of the elements, as a loop over the list asks for them; one element; a list that has these elements. Assumes nothing.
+use mathlib.Core.Path.{_≡_, refl, sym, ap, ap₂, _∙_}
 use mathlib.Core.Bool.{Bool, true, false, cond}
 use mathlib.Core.List.{List, [], _∷_, _++_}
 use mathlib.Core.Option.{Option, none, some}
@@ -11,6 +11,7 @@ use native.Mathlib.Numerals.{add-one}
 use native.Mathlib.Omega.{arith}
 use lib.ListN.{length, getD}
 use Rattle.rules.specs.Listing.{any, all, tally, firstFrom}
+use Rattle.rules.proofs.LawsListing.{and-left, and-right}
 use Rattle.cells.specs.Listed.{listed}
 
 -- the first index over one more element
@@ -96,6 +97,21 @@ module _ {X : Type 0} (test : X → Bool) (at : ℕ → X) (i n : ℕ) (h : i < 
 
   pub all-next : test (at i) ≡ true → all test (listed at i (n - i)) ≡ all test (listed at (i + 1) (n - (i + 1)))
   all-next e = rw (listed-next at i n h, e)
+
+-- a test of all is a test of each
+pub all-at : {X : Type 0} (test : X → Bool) (xs : List X) (k : ℕ) (x : X) → k < length xs → all test xs ≡ true → test (getD xs k x) ≡ true
+all-at test [] k x h e = absurd (omega arith)
+all-at test (y ∷ ys) zero x h e = and-left (test y) (all test ys) e
+all-at test (y ∷ ys) (suc k) x h e = all-at test ys k x (omega arith) (and-right (test y) (all test ys) e)
+
+-- the element at an index
+pub getD-listed : {X : Type 0} (f : ℕ → X) (i n k : ℕ) (d : X) → k < n → getD (listed f i n) k d ≡ f (i + k)
+getD-listed f i zero k d h = absurd (omega arith)
+getD-listed f i (suc n) zero d h = ap f (sym (add-zero i))
+getD-listed f i (suc n) (suc k) d h = getD-listed f (suc i) n k d (omega arith) ∙ ap f (step i k)
+  where
+    step : (a b : ℕ) → suc a + b ≡ a + suc b
+    step a b = omega arith
 
 -- a list by its elements
 pub elements : {X : Type 0} (f : ℕ → X) (d : X) (i : ℕ) (xs : List X) → ((k : ℕ) → k < length xs → getD xs k d ≡ f (i + k)) → xs ≡ listed f i (length xs)

@@ -1,8 +1,9 @@
 -- A text of the code (01, texts), what reading one answers, and the key of a text.
 use mathlib.Core.Bool.{cond}
-use mathlib.Core.List.{List, [], _∷_}
-use Prim.Native.Nat.{ℕ, _+_, _*_}
-use lib.ListN.{take}
+use mathlib.Core.List.{List, []}
+use Prim.Native.Nat.{ℕ, _+_, _-_, _*_, _/_}
+use lib.Dec.{ltb}
+use lib.ListN.{length, getD}
 use Rattle.rules.specs.Text.{startOf, sizeOf, isText, inside, bytesAt}
 use Rattle.cells.specs.declared.text.Text.{Text}
 use Rattle.cells.specs.declared.text.ReadText.{ReadText}
@@ -20,10 +21,8 @@ readText least area payload = cond (isText least area payload) (Is (textOf paylo
 unfoldable pub partAt : List ℕ → ℕ → List ℕ
 partAt area payload = cond (inside area payload) (bytesAt area payload) []
 
--- the first eight bytes of a text as one number, most significant first: texts that differ here need not be compared byte by byte
-abbrev pub keyFrom : ℕ → List ℕ → ℕ
-keyFrom k [] = k
-keyFrom k (b ∷ bs) = keyFrom (k * 256 + b) bs
-
+-- four bytes of a text as one number, the first, the middle one and the last two: texts that differ here need not be compared byte by byte
 unfoldable pub keyOf : List ℕ → ℕ
-keyOf bytes = keyFrom 0 (take 8 bytes)
+keyOf bytes =
+    cond (ltb (length bytes) 2) (getD bytes 0 0)
+    ((getD bytes 0 0 * 256 + getD bytes (length bytes / 2) 0) * 65536 + (getD bytes (length bytes - 2) 0 * 256 + getD bytes (length bytes - 1) 0))

@@ -110,12 +110,12 @@ module _ (spec : List ℕ) (l : ParametersSpec) (cells area : List ℕ) (h : Hea
   count-few : count ≤ 128
   count-few = omega (arith, r .in-rest, names-few)
 
-  pub board-ready : (board : List ℕ) → 896 ≤ length board → BoardReady l cells h rest count board
+  pub board-ready : (board : List ℕ) → 896 ≤ length board → BoardReady (l .params .len) (l .indices .«num_positional») cells h rest count board
   unfolding positionalCount
   board-ready board long =
       record {
         room = ready .list .is-list .room;
-        positional = omega (arith, ready .list .is-list .positional, tally-most qs, few-list spec l cells area (ready .list));
+        few-positional = omega (arith, ready .list .is-list .positional, tally-most qs, few-list spec l cells area (ready .list));
         few = ready .few;
         held = record {
           few = count-few;
@@ -126,7 +126,7 @@ module _ (spec : List ℕ) (l : ParametersSpec) (cells area : List ℕ) (h : Hea
         long = long;
       }
 
-  pub slow-ends : (before after : List ℕ) (counts : Counts) → 896 ≤ length before → fine ≡ askBinding qs c → BoardWritten l cells h next sources rest count before after counts → Ends (bindingOf qs c before) before after (Accepted counts)
+  pub slow-ends : (before after : List ℕ) (counts : Counts) → 896 ≤ length before → fine ≡ askBinding qs c → BoardWritten (l .params .codes) (l .params .«default_kinds») (l .params .«default_payloads») (l .params .len) (l .indices .«num_positional») cells h next sources rest count before after counts → Ends (bindingOf qs c before) before after (Accepted counts)
   slow-ends before after counts long passed so =
       ends-accepted qs (positionalsOf c) (namedOf c) before (askBinding qs c) after counts (sym passed)
       (counts-placed spec l (ready .list) cells area (positionalsOf c) (namedOf c) sources rest count next (ready .upto) r count-few h (ready .values) (ready .long) before after counts so)
@@ -166,7 +166,7 @@ module _ (qs : List Parameter) (c : Call) (cells : List ℕ) (h : Head) (short :
       fits = omega (arith, wide, values-length)
 
 -- a record that passed its questions, where the short path applies
-module _ (spec : List ℕ) (l : ParametersSpec) (cells area : List ℕ) (h : Head) (read : h ≡ readHead cells) (next : ℕ) (ready : CallReady spec l cells area h next (callOf cells area)) (applies : isShort l h ≡ true) where
+module _ (spec : List ℕ) (l : ParametersSpec) (cells area : List ℕ) (h : Head) (read : h ≡ readHead cells) (next : ℕ) (ready : CallReady spec l cells area h next (callOf cells area)) (applies : isShort (l .indices .«num_positional») (l .params .len) h ≡ true) where
   abbrev call : Call
   call = callOf cells area
 

@@ -22,7 +22,8 @@ use Rattle.builder.specs.Params.{parametersIn}
 use Rattle.builder.specs.declared.spec.ParametersSpec.{ParametersSpec}
 use Rattle.calls.specs.Head.{namedFrom}
 use Rattle.calls.specs.Runs.{pairsAt}
-use Rattle.calls.proofs.LawsEach.{each-length, each-at, each-map, all-at}
+use Rattle.cells.proofs.LawsListed.{all-at}
+use Rattle.calls.proofs.LawsEach.{each-length, each-at, each-map}
 use Rattle.calls.proofs.LawsForm.{pair-name}
 use Rattle.calls.proofs.LawsNamed.{name-inside}
 use Rattle.calls.proofs.LawsCall.{call-positionals, call-named, lengths-few, formed-named, form-lengths, form-parts}

@@ -27,7 +27,7 @@ use Rattle.builder.specs.Params.{parameterOf, parameterAt, parametersIn}
 use Rattle.builder.specs.declared.params.Parameters.{Parameters}
 use Rattle.builder.specs.declared.spec.Index.{Index}
 use Rattle.builder.specs.declared.spec.Index.the-variants as index
-use Rattle.cells.proofs.LawsListed.{length-listed, tally-snoc}
+use Rattle.cells.proofs.LawsListed.{length-listed, tally-snoc, getD-listed}
 use Rattle.lookup.specs.declared.Finding.{Finding}
 use Rattle.lookup.specs.declared.Finding.the-variants.{At, Unknown}
 use Rattle.lookup.specs.Lookup.{findingOf}
@@ -36,7 +36,7 @@ use Rattle.collector.specs.CanFill.{isThere, freeFor, namedAfter}
 use Rattle.findings.proofs.LawsIndex.{firstIndex-from}
 use Rattle.findings.proofs.LawsAsked.{isSome, any-first}
 use Rattle.findings.proofs.LawsNames.{anyParameter}
-use Rattle.slots.proofs.LawsPlaced.{getD-listed, required-code}
+use Rattle.slots.proofs.LawsPlaced.{required-code}
 use Rattle.questions.proofs.LawsAskPlaced.{args-found, kwargs-found}
 use Rattle.findings.proofs.LawsResolved.{named-at, known-at, find-within}
 

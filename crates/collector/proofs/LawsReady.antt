@@ -22,9 +22,10 @@ use Rattle.cells.specs.Listed.{listed}
 use Rattle.builder.specs.declared.spec.ParametersSpec.{ParametersSpec}
 use Rattle.calls.specs.Head.{Few, namedFrom, entriesFrom}
 use Rattle.calls.specs.Runs.{pairsAt}
-use Rattle.calls.proofs.LawsEach.{each-length, each-at, each-map, all-at}
+use Rattle.cells.proofs.LawsListed.{all-at}
+use Rattle.calls.proofs.LawsEach.{each-length, each-at, each-map}
 use Rattle.calls.proofs.LawsForm.{entry-key}
-use Rattle.calls.proofs.LawsCall.{names-by, lengths-few, formed-entries, form-lengths, form-kinds, form-parts, call-form, call-names}
+use Rattle.calls.proofs.LawsCall.{names-by, lengths-few, positionals-within, formed-entries, form-lengths, form-kinds, form-parts, call-form, call-names}
 use Rattle.calls.proofs.LawsPlaces.{named-run, entries-run, positionals-length, star-passes, double-passes, positional-at}
 use Rattle.findings.specs.Resolved.{namedAt}
 use Rattle.findings.specs.Resolve.{Prepared, Pairs}
@@ -66,6 +67,14 @@ module _ (cells area : List ℕ) (h : Head) (read : h ≡ readHead cells) (passe
 
   few : Few 64 h
   few = lengths-few cells h read 64 nine
+
+  pub call-few : Few 64 h
+  call-few = few
+
+  -- its written values are all there
+  pub values-within : 6 + 2 * h .p ≤ length cells
+  unfolding headWidth valueWidth
+  values-within = positionals-within cells h read 64 nine
 
   written : callIn area (readCall cells) .named ≡ writtenNames area cells h
   unfolding namedAt

@@ -5,8 +5,8 @@ use mathlib.Core.List.{List, []}
 use Prim.Native.Nat.{ℕ, _+_, min, _≤_}
 use lib.Dec.{eqb}
 use lib.ListN.{length}
-use Rattle.rules.specs.Answer.{_then_}
-use Rattle.rules.specs.CallRecord.{Head, Call, noStar, noDouble, positionalsOf, namedOf}
+use Rattle.rules.specs.Answer.{fine, _then_}
+use Rattle.rules.specs.CallRecord.{Head, readHead, Call, noStar, noDouble, positionalsOf, namedOf}
 use Rattle.rules.specs.Parameters.{Parameter, positionalCount}
 use Rattle.rules.specs.CallQuestions.{askCall, askBoard}
 use Rattle.rules.specs.Binding.{askBinding}
@@ -16,6 +16,10 @@ use Rattle.answers.specs.Answer.{told}
 use Rattle.calls.specs.Values.{valuesIn}
 use Rattle.questions.specs.Questions.{CallReady}
 use Rattle.answers.specs.declared.answer.Collected.{Collected}
+use Rattle.calls.specs.Head.{headOf}
+use Rattle.calls.specs.declared.head.Head.{Head as CodeHead}
+use Rattle.collector.specs.declared.collect.Begun.{Begun}
+use Rattle.collector.specs.declared.collect.Begun.the-variants.{Ended, Open}
 
 -- an answer, with the board before and after it, is an outcome of `rules`: number and detail, or the counts; and every cell of the board
 pub record Ends (outcome : Outcome) (before after : List ℕ) (r : Collected) : Type 0 where
@@ -33,9 +37,14 @@ boundTo qs cells area board =
     outcomeOf (askCall 64 cells area then askBoard 64 64 board then askBinding qs c) qs (positionalsOf c) (namedOf c) board
 
 -- the short path applies: as many values as there are parameters, all of them positional, and nothing else given
-abbrev pub isShort : ParametersSpec → Head → Bool
-isShort l h =
-    eqb (h .p) (l .indices .«num_positional») && (eqb (l .indices .«num_positional») (l .params .len) && (eqb (h .n) 0 && (eqb (h .starKind) 0 && eqb (h .doubleKind) 0)))
+abbrev pub isShort : (positional len : ℕ) → Head → Bool
+isShort positional len h =
+    eqb (h .p) positional && (eqb positional len && (eqb (h .n) 0 && (eqb (h .starKind) 0 && eqb (h .doubleKind) 0)))
+
+-- after 9 to 14 and the short path a call has ended as it does against the list, or it passed 9 to 14 and nothing is written
+pub record Beginning (qs : List Parameter) (cells area before after : List ℕ) (r : Begun) : Type 0 where
+  pub ended : (c : Collected) → r ≡ Ended c → Ends (boundTo qs cells area before) before after c
+  pub left-open : (h : CodeHead) → r ≡ Open h → (headOf h ≡ readHead cells) × (askCall 64 cells area ≡ fine) × (896 ≤ length before) × (after ≡ before)
 
 -- a call that the short path is for, its values standing in a record
 pub record ShortCall (qs : List Parameter) (c : Call) (cells : List ℕ) (h : Head) : Type 0 where

@@ -74,7 +74,8 @@ fn can_fill(list: ParametersSpec, spec: &[u8], cells: &[u64], area: &[u8], h: He
 }
 
 // Each written name fills its slot, in their order, up to the first that cannot. `named` is 1 where a name fills a slot: a slot below
-// `next` is filled by position, and `named` stays 0 there.
+// `next` is filled by position, and `named` stays 0 there. Names mostly come in the list's order, so each is looked for first as far behind
+// `next` as there are names before it.
 fn fill_names(
     list: ParametersSpec,
     spec: &[u8],
@@ -103,6 +104,7 @@ fn fill_names(
             cells,
             area,
             from + PAIR * k,
+            next + k,
         );
         if !fill(found, kwargs, next, named) {
             return false;

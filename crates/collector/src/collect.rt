@@ -5,11 +5,13 @@ use crate::can_fill::least;
 use answers::answer::Collected;
 use answers::answer::Counts;
 use builder::build;
+use builder::params::CAPACITY;
+use builder::spec::DefParamIndices;
 use builder::spec::ParametersSpec;
 use calls::ask_call;
 use calls::head::Head;
 use calls::head::read_head;
-use calls::values::write_values;
+use calls::values::copy_written;
 use cells::answer::Answer;
 use findings::resolve::NAMED;
 use questions::judge::Judged;
@@ -17,15 +19,17 @@ use questions::questions::judge;
 use slots::board::write_board;
 ghost use mathlib.Core.Path.{_≡_};
 ghost use mathlib.Core.List.{List};
-ghost use Prim.Native.Nat.{_≤_};
+ghost use Prim.Native.Nat.{ℕ, _+_, _*_, _≤_};
 ghost use lib.ListN.{length};
 ghost use Rattle.rules.specs.CallRecord.{Call};
+ghost use Rattle.builder.specs.declared.spec.ParametersSpec.{ParametersSpec};
 ghost use Rattle.rules.specs.Parameters.{Parameter};
 ghost use Rattle.rules.specs.Collection.{callOf, collection};
 ghost use Rattle.builder.specs.Params.{parametersIn};
-ghost use Rattle.calls.specs.Head.{headOf};
+ghost use Rattle.calls.specs.Head.{headOf, Few};
 ghost use Rattle.findings.specs.Resolve.{Prepared};
-ghost use Rattle.collector.specs.Collect.{Ends, bindingOf, boundTo, isShort, ShortCall, SlowReady};
+ghost use Rattle.questions.specs.Questions.{lentWith};
+ghost use Rattle.collector.specs.Collect.{Ends, bindingOf, boundTo, isShort, Beginning, ShortCall, SlowReady};
 
 // A board holds 64 slots, a star remainder of 128 values and a named remainder of 128 pairs.
 pub const BOARD: usize = 896;
@@ -60,29 +64,59 @@ pub fn bind(
     requires { ⌜ Prepared (now spec) list ⌝ }
     ensures { λ r. ⌜ Ends (boundTo (parametersIn (now (spec .entry)) (list .params)) (now (cells .entry)) (now (area .entry)) (now (board .entry))) (now (board .entry)) (now (board .exit)) r ⌝ }
 {
+    let indices = list.indices;
+    let begun = begin(indices.num_positional, list.params.len, cells, area, board);
+    match begun {
+        Begun::Ended(ended) => ended,
+        Begun::Open(h) => collect_slow(
+            spec,
+            &list.params.codes,
+            &list.params.styles,
+            &list.params.names,
+            &list.params.default_kinds,
+            &list.params.default_payloads,
+            list.params.len,
+            indices,
+            cells,
+            area,
+            h,
+            board,
+        ),
+    }
+}
+
+// How far a call is after 9 to 14 and the short path: at its end, or left to the general path, with nothing written.
+pub enum Begun {
+    Ended(Collected),
+    Open(Head),
+}
+
+// 9 to 14, and the short path where it applies. Of the list no more is asked than how many parameters it has and how many are positional.
+pub fn begin(positional: usize, len: usize, cells: &[u64], area: &[u8], board: &mut [u64]) -> Begun
+    ensures { λ r. ⌜ ((spec : List ℕ) (l : ParametersSpec) → Prepared spec l → l .indices .«num_positional» ≡ positional → l .params .len ≡ len → Beginning (parametersIn spec (l .params)) (now (cells .entry)) (now (area .entry)) (now (board .entry)) (now (board .exit)) r) ⌝ }
+{
     let asked = ask_call(cells, area);
     if let Answer::Refused(question) = asked {
-        return Collected::Record(question);
+        return Begun::Ended(Collected::Record(question));
     }
     if board.len() < BOARD {
-        return Collected::Record(14);
+        return Begun::Ended(Collected::Record(14));
     }
     let h = read_head(cells);
-    if is_short(list, h) {
-        return collect_inline(cells, h, board);
+    if is_short(positional, len, h) {
+        return Begun::Ended(collect_inline(cells, h, board));
     }
-    collect_slow(list, spec, cells, area, h, board)
+    Begun::Open(h)
 }
 
 // Does the short path apply?
-fn is_short(list: ParametersSpec, h: Head) -> bool
-    ensures { λ r. ⌜ r ≡ isShort list (headOf h) ⌝ }
+fn is_short(positional: usize, len: usize, h: Head) -> bool
+    ensures { λ r. ⌜ r ≡ isShort positional len (headOf h) ⌝ }
 {
-    let positional = list.indices.num_positional;
     if h.p != positional {
         return false;
     }
-    if positional != list.params.len {
+    if positional != len {
         return false;
     }
     if h.n != 0 {
@@ -96,10 +130,10 @@ fn is_short(list: ParametersSpec, h: Head) -> bool
 
 // The short path: each value is its parameter's slot.
 fn collect_inline(cells: &[u64], h: Head, board: &mut [u64]) -> Collected
-    requires { ⌜ (h .p ≤ 64) × (896 ≤ length (now board)) ⌝ }
+    requires { ⌜ Few 64 (headOf h) × (6 + 2 * h .p ≤ length (now cells)) × (896 ≤ length (now board)) ⌝ }
     ensures { λ r. ⌜ ((qs : List Parameter) (c : Call) → ShortCall qs c (now (cells .entry)) (headOf h) → Ends (bindingOf qs c (now (board .entry))) (now (board .entry)) (now (board .exit)) r) ⌝ }
 {
-    write_values(cells, h, 0, h.p, 0, board);
+    copy_written(cells, h, board);
     Collected::Accepted(Counts {
         taken: h.p,
         defaulted: 0,
@@ -108,26 +142,50 @@ fn collect_inline(cells: &[u64], h: Head, board: &mut [u64]) -> Collected
     })
 }
 
-// The general path: 15 to 24, and then the board.
-fn collect_slow(
-    list: ParametersSpec,
-    spec: &[u8],
+// The general path: 15 to 24, and then the board. The list is lent by its columns.
+pub fn collect_slow<'a>(
+    spec: &'a [u8],
+    codes: &'a [u64; CAPACITY],
+    styles: &'a [u64; CAPACITY],
+    names: &'a [u64; CAPACITY],
+    kinds: &'a [u64; CAPACITY],
+    payloads: &'a [u64; CAPACITY],
+    len: usize,
+    indices: DefParamIndices,
     cells: &[u64],
     area: &[u8],
     h: Head,
     board: &mut [u64],
 ) -> Collected
-    requires { ⌜ SlowReady (now spec) list (now cells) (now area) (headOf h) (now board) ⌝ }
-    ensures { λ r. ⌜ Ends (bindingOf (parametersIn (now (spec .entry)) (list .params)) (callOf (now (cells .entry)) (now (area .entry))) (now (board .entry))) (now (board .entry)) (now (board .exit)) r ⌝ }
+    requires { ⌜ SlowReady (now spec) (lentWith (now codes) (now styles) (now names) len indices (now kinds) (now payloads)) (now cells) (now area) (headOf h) (now board) ⌝ }
+    ensures { λ r. ⌜ Ends (bindingOf (parametersIn (now (spec .entry)) (lentWith (now (codes .entry)) (now (styles .entry)) (now (names .entry)) len indices (now (kinds .entry)) (now (payloads .entry)) .params)) (callOf (now (cells .entry)) (now (area .entry))) (now (board .entry))) (now (board .entry)) (now (board .exit)) r ⌝ }
 {
-    let next = least(h.p + h.s, list.indices.num_positional);
+    let positional = indices.num_positional;
+    let next = least(h.p + h.s, positional);
     let mut sources: [usize; 64] = [0; 64];
     let mut rest: [usize; NAMED] = [0; NAMED];
-    let judged = judge(list, spec, cells, area, h, next, &mut sources, &mut rest);
+    let judged = judge(
+        spec,
+        codes,
+        styles,
+        names,
+        len,
+        indices,
+        cells,
+        area,
+        h,
+        next,
+        &mut sources,
+        &mut rest,
+    );
     match judged {
         Judged::Refused(refusal) => refusal,
         Judged::Fine(count) => Collected::Accepted(write_board(
-            list,
+            codes,
+            kinds,
+            payloads,
+            len,
+            positional,
             cells,
             h,
             next,

@@ -22,9 +22,9 @@ use Rattle.builder.specs.Params.{parametersIn}
 use Rattle.builder.specs.declared.spec.ParametersSpec.{ParametersSpec}
 use Rattle.cells.proofs.LawsListed.{length-listed, listed-next, listed-more}
 use Rattle.lookup.specs.Lookup.{findIn, findingOf}
-use Rattle.lookup.proofs.LawsBuilt.{lookup-columns}
+use Rattle.lookup.proofs.LawsBuilt.{lookup-columns, one-fits}
 use Rattle.findings.specs.Resolved.{namedAt, Resolved}
-use Rattle.findings.specs.Resolve.{foundIn, foundAt, Below, sourcesAfter, restAfter, countAfter, pairsFrom, Prepared, Naming}
+use Rattle.findings.specs.Resolve.{foundIn, foundAt, Below, OneEach, sourcesAfter, restAfter, countAfter, pairsFrom, Prepared, Naming}
 use Rattle.findings.proofs.LawsResolved.{entered, entered-below}
 
 -- a parameter to read past the end of a list
@@ -56,6 +56,9 @@ module _ (spec : List ℕ) (l : ParametersSpec) (cells area : List ℕ) (list : 
   found-is pair e =
       ap (λ b. findingOf (findIn spec (l .params .codes) (l .params .styles) (l .params .names) (l .params .len) (cond b (bytesAt area (pairAt cells pair .payload)) []))) e
       ∙ lookup-columns spec (bytesAt area (pairAt cells pair .payload)) (l .params) (list .is-list .room) (list .inside)
+
+  pub one-each : OneEach spec (l .params .codes) (l .params .styles) (l .params .names) (l .params .len)
+  one-each bytes = one-fits spec bytes (l .params) (list .is-list .room) (list .inside) (list .apart)
 
 -- ---- one more written pair
 

@@ -16,7 +16,7 @@ use Rattle.builder.specs.declared.spec.ParametersSpec.{ParametersSpec}
 use Rattle.calls.specs.Head.{Few, namedFrom, entriesFrom}
 use Rattle.answers.specs.Answer.{placeOf}
 use Rattle.findings.specs.Resolved.{Resolved}
-use Rattle.findings.specs.Resolve.{Prepared, pairsFrom}
+use Rattle.findings.specs.Resolve.{Prepared, pairsFrom, Others, lentList}
 use Rattle.findings.specs.declared.entries.Entries.{Entries}
 use Rattle.findings.specs.declared.entries.Entries.the-variants.{All, NotText, Repeated}
 
@@ -52,3 +52,13 @@ pub record EntriesDone (spec : List ℕ) (l : ParametersSpec) (cells area : List
   pub resolved
       : (count : ℕ) → r ≡ All count
       → Resolved (parametersIn spec (l .params)) cells area (writtenNames area cells h ++ pairsFrom area cells (entriesFrom h) (h .d)) sources rest count
+
+-- the same against columns that are lent: they are those of such a list, and what is promised holds of each such list that has them
+pub record EntriesLent (spec codes styles names : List ℕ) (len : ℕ) (cells area : List ℕ) (h : Head) (next : ℕ) (sources rest : List ℕ) (count : ℕ) : Type 0 where
+  pub others : Others
+  pub ready : EntriesReady spec (lentList codes styles names len others) cells area h next sources rest count
+
+abbrev pub EntriesResolved : (spec codes styles names : List ℕ) (len : ℕ) (cells area : List ℕ) (h : Head) (next : ℕ) (sources rest : List ℕ) (count : ℕ) (sourcesAfter restAfter : List ℕ) (r : Entries) → Type 0
+EntriesResolved spec codes styles names len cells area h next sources rest count sourcesAfter restAfter r =
+    (o : Others) → EntriesReady spec (lentList codes styles names len o) cells area h next sources rest count
+    → EntriesDone spec (lentList codes styles names len o) cells area h next sourcesAfter restAfter r

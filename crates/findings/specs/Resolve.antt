@@ -14,10 +14,11 @@ use Rattle.cells.specs.Record.{pairAt}
 use Rattle.cells.specs.Listed.{listed}
 use Rattle.builder.specs.Params.{parametersIn}
 use Rattle.builder.specs.Build.{IsList}
+use Rattle.builder.specs.declared.spec.DefParamIndices.{DefParamIndices}
 use Rattle.builder.specs.declared.spec.ParametersSpec.{ParametersSpec}
 use Rattle.lookup.specs.declared.Finding.{Finding}
 use Rattle.lookup.specs.declared.Finding.the-variants.{At, Unknown}
-use Rattle.lookup.specs.Lookup.{findIn}
+use Rattle.lookup.specs.Lookup.{findIn, OneFits}
 use Rattle.findings.specs.Resolved.{namedAt, NamedPair, Resolved}
 
 -- the parameter that the pair at a cell names, by the columns
@@ -27,6 +28,10 @@ foundIn spec codes styles names len area cells pair = findIn spec codes styles n
 -- the same by the list
 abbrev pub foundAt : List ℕ → ParametersSpec → List ℕ → List ℕ → ℕ → Finding
 foundAt spec l area cells pair = foundIn spec (l .params .codes) (l .params .styles) (l .params .names) (l .params .len) area cells pair
+
+-- no two parameters of the columns have one name
+abbrev pub OneEach : List ℕ → List ℕ → List ℕ → List ℕ → ℕ → Type 0
+OneEach spec codes styles names len = (bytes : List ℕ) → OneFits spec codes styles names len bytes
 
 -- an index that is found is below n
 abbrev pub Below : ℕ → Finding → Type 0
@@ -52,6 +57,20 @@ pub record Prepared (area : List ℕ) (l : ParametersSpec) : Type 0 where
   pub apart : namesApart [] (parametersIn area (l .params)) ≡ true
   pub inside : all (nameInside area) (parametersIn area (l .params)) ≡ true
 
+-- what goes with the columns that names are looked up in, to make a list: defaults, counts and indices
+pub record Others : Type 0 where
+  pub kinds : List ℕ
+  pub payloads : List ℕ
+  pub indices : DefParamIndices
+
+-- the list whose columns are lent
+abbrev pub lentList : List ℕ → List ℕ → List ℕ → ℕ → Others → ParametersSpec
+lentList codes styles names len o =
+    record {
+      params = record { codes = codes; styles = styles; names = names; «default_kinds» = o .kinds; «default_payloads» = o .payloads; len = len };
+      indices = o .indices;
+    }
+
 -- the named values of `count` pairs from a cell on
 abbrev pub pairsFrom : List ℕ → List ℕ → ℕ → ℕ → List Named
 pairsFrom area cells from count = listed (λ k. namedAt area cells (from + 4 * k)) 0 count
@@ -68,3 +87,14 @@ pub record Naming (spec : List ℕ) (l : ParametersSpec) (cells area : List ℕ)
   pub pairs : Pairs area cells from count
   pub apart : differ (textsOf (pairsFrom area cells from count)) ≡ true
   pub empty : Resolved (parametersIn spec (l .params)) cells area [] sources rest 0
+
+-- the same against columns that are lent: they are those of such a list
+pub record NamesLent (spec codes styles names : List ℕ) (len : ℕ) (cells area : List ℕ) (from count : ℕ) (sources rest : List ℕ) : Type 0 where
+  pub others : Others
+  pub naming : Naming spec (lentList codes styles names len others) cells area from count sources rest
+
+-- and against each such list that has these columns the names are resolved
+abbrev pub NamesResolved : (spec codes styles names : List ℕ) (len : ℕ) (cells area : List ℕ) (from count : ℕ) (sources rest sourcesAfter restAfter : List ℕ) (r : ℕ) → Type 0
+NamesResolved spec codes styles names len cells area from count sources rest sourcesAfter restAfter r =
+    (o : Others) → Naming spec (lentList codes styles names len o) cells area from count sources rest
+    → Resolved (parametersIn spec (lentList codes styles names len o .params)) cells area (pairsFrom area cells from count) sourcesAfter restAfter r

@@ -1,9 +1,9 @@
 // The entries of a call's dictionary (01, questions 18 and 19), asked one by one before anything is written, and resolved like the
 // written names. Reworked from starlark 0.14.2, src/eval/runtime/params/spec.rs (collect_slow), Apache-2.0.
 use crate::resolve::NAMED;
+use crate::resolve::behind;
 use crate::resolve::enter;
 use builder::params::CAPACITY;
-use builder::spec::ParametersSpec;
 use calls::head::Head;
 use calls::head::PAIR;
 use calls::head::entries_from;
@@ -13,13 +13,13 @@ use cells::text::part;
 use cells::text::same;
 use cells::value::ReadKey;
 use lookup::Finding;
-use lookup::find;
+use lookup::find_near;
 ghost use mathlib.Core.Path.{_≡_};
 ghost use Rattle.rules.specs.Text.{among};
 ghost use Rattle.rules.specs.Binding.{textsOf};
-ghost use Rattle.findings.specs.Resolve.{Below};
+ghost use Rattle.findings.specs.Resolve.{Below, OneEach};
 ghost use Rattle.findings.specs.Entries.{Held, heldNames, takenBy, wordIn, enteredIn};
-ghost use Rattle.findings.specs.EntriesDone.{EntriesReady, EntriesDone};
+ghost use Rattle.findings.specs.EntriesDone.{EntriesLent, EntriesResolved};
 ghost use Rattle.calls.specs.Head.{headOf};
 
 // What resolving all the entries answers: how many pairs the remainder then has, or the first refusal.
@@ -31,36 +31,41 @@ pub enum Entries {
     Repeated(u64),
 }
 
-// All the entries, after the written names.
-pub fn resolve_entries(
-    list: ParametersSpec,
-    spec: &[u8],
+// All the entries, after the written names. `near` is where the first is looked for first.
+pub fn resolve_entries<'a>(
+    spec: &'a [u8],
+    codes: &'a [u64; CAPACITY],
+    styles: &'a [u64; CAPACITY],
+    names: &'a [u64; CAPACITY],
+    len: usize,
     cells: &[u64],
     area: &[u8],
     h: Head,
     next: usize,
+    near: usize,
     sources: &mut [usize; 64],
     rest: &mut [usize; NAMED],
     before: usize,
 ) -> Entries
-    requires { ⌜ EntriesReady (now spec) list (now cells) (now area) (headOf h) next (now sources) (now rest) before ⌝ }
-    ensures { λ r. ⌜ EntriesDone (now (spec .entry)) list (now (cells .entry)) (now (area .entry)) (headOf h) next (now (sources .exit)) (now (rest .exit)) r ⌝ }
+    requires { ⌜ EntriesLent (now spec) (now codes) (now styles) (now names) len (now cells) (now area) (headOf h) next (now sources) (now rest) before ⌝ }
+    ensures { λ r. ⌜ EntriesResolved (now (spec .entry)) (now (codes .entry)) (now (styles .entry)) (now (names .entry)) len (now (cells .entry)) (now (area .entry)) (headOf h) next (now (sources .entry)) (now (rest .entry)) before (now (sources .exit)) (now (rest .exit)) r ⌝ }
 {
-    let params = list.params;
     let from = entries_from(h);
+    let mut guess = near;
     let mut count = before;
     let mut k = 0;
     while k < h.d {
         let pair = from + PAIR * k;
         let entered = entry_at(
             spec,
-            &params.codes,
-            &params.styles,
-            &params.names,
-            params.len,
+            codes,
+            styles,
+            names,
+            len,
             cells,
             area,
             pair,
+            guess,
             next,
             sources,
             rest,
@@ -74,6 +79,7 @@ pub fn resolve_entries(
                 return Entries::Repeated(payload);
             }
             Entered::Free(found) => {
+                guess = behind(found, guess);
                 count = enter(found, pair, sources, rest, count);
             }
         }
@@ -91,7 +97,7 @@ pub enum Entered {
     Repeated(u64),
 }
 
-// 18 and 19 of the entry at a cell.
+// 18 and 19 of the entry at a cell. The search starts at `near`.
 pub fn entry_at<'a>(
     spec: &'a [u8],
     codes: &'a [u64; CAPACITY],
@@ -101,12 +107,13 @@ pub fn entry_at<'a>(
     cells: &[u64],
     area: &[u8],
     pair: usize,
+    near: usize,
     next: usize,
     sources: &[usize; 64],
     rest: &[usize; NAMED],
     count: usize,
 ) -> Entered
-    requires { ⌜ Held (now area) (now cells) (now rest) count ⌝ }
+    requires { ⌜ Held (now area) (now cells) (now rest) count × OneEach (now spec) (now codes) (now styles) (now names) len ⌝ }
     ensures { λ r. ⌜ r ≡ enteredIn (now (spec .entry)) (now (codes .entry)) (now (styles .entry)) (now (names .entry)) len (now (area .entry)) (now (cells .entry)) pair next (now (sources .entry)) (now (rest .entry)) count ⌝ }
 {
     match key_at(area, cells, pair) {
@@ -119,6 +126,7 @@ pub fn entry_at<'a>(
             cells,
             area,
             t.payload(),
+            near,
             next,
             sources,
             rest,
@@ -139,16 +147,17 @@ fn word_at<'a>(
     cells: &[u64],
     area: &[u8],
     payload: u64,
+    near: usize,
     next: usize,
     sources: &[usize; 64],
     rest: &[usize; NAMED],
     count: usize,
 ) -> Entered
-    requires { ⌜ Held (now area) (now cells) (now rest) count ⌝ }
+    requires { ⌜ Held (now area) (now cells) (now rest) count × OneEach (now spec) (now codes) (now styles) (now names) len ⌝ }
     ensures { λ r. ⌜ r ≡ wordIn (now (spec .entry)) (now (codes .entry)) (now (styles .entry)) (now (names .entry)) len (now (area .entry)) (now (cells .entry)) next (now (sources .entry)) (now (rest .entry)) count payload ⌝ }
 {
     let name = part(area, payload);
-    let found = find(spec, codes, styles, names, len, name);
+    let found = find_near(spec, codes, styles, names, len, near, name);
     if is_taken(found, cells, area, next, sources, rest, count, name) {
         return Entered::Repeated(payload);
     }

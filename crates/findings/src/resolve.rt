@@ -2,21 +2,18 @@
 // name no parameter, in their order. 16, 19, 24 and placement work on these findings.
 // Reworked from starlark 0.14.2, src/eval/runtime/params/spec.rs (collect_slow), Apache-2.0.
 use builder::params::CAPACITY;
-use builder::spec::ParametersSpec;
 use cells::record::pair_at;
 use cells::text::part;
 use lookup::Finding;
-use lookup::find;
+use lookup::find_near;
 ghost use mathlib.Core.Path.{_≡_};
 ghost use Prim.Native.Nat.{_+_, _*_, _<_, _≤_, _^_};
-ghost use Rattle.findings.specs.Resolve.{Below, foundIn, sourcesAfter, restAfter, countAfter, pairsFrom, Naming};
-ghost use Rattle.findings.specs.Resolved.{Resolved};
-ghost use Rattle.builder.specs.Params.{parametersIn};
+ghost use Rattle.findings.specs.Resolve.{Below, OneEach, foundIn, sourcesAfter, restAfter, countAfter, NamesLent, NamesResolved};
 
 // The pairs of N, at most 64 written and 64 entries.
 pub const NAMED: usize = 128;
 
-// The parameter that the pair at a cell names, by the list's columns, lent: none of them is copied for a name.
+// The parameter that the pair at a cell names, by the list's columns, lent: none of them is copied for a name. The search starts at `near`.
 pub fn found_at<'a>(
     spec: &'a [u8],
     codes: &'a [u64; CAPACITY],
@@ -26,11 +23,21 @@ pub fn found_at<'a>(
     cells: &[u64],
     area: &[u8],
     pair: usize,
+    near: usize,
 ) -> Finding
+    requires { ⌜ OneEach (now spec) (now codes) (now styles) (now names) len ⌝ }
     ensures { λ r. ⌜ r ≡ foundIn (now (spec .entry)) (now (codes .entry)) (now (styles .entry)) (now (names .entry)) len (now (area .entry)) (now (cells .entry)) pair ⌝ }
 {
     let key = pair_at(cells, pair);
-    find(spec, codes, styles, names, len, part(area, key.payload))
+    find_near(
+        spec,
+        codes,
+        styles,
+        names,
+        len,
+        near,
+        part(area, key.payload),
+    )
 }
 
 // The pair's value fills the slot that is found, or the pair joins the remainder. How many pairs the remainder then has.
@@ -58,35 +65,41 @@ pub fn enter(
     }
 }
 
-// The written names, of which none stands twice.
-pub fn resolve_names(
-    list: ParametersSpec,
-    spec: &[u8],
+// Where to look first for the next name: behind the parameter that was found, or where it was looked for this time.
+pub fn behind(found: Finding, near: usize) -> usize
+    requires { ⌜ Below 64 found ⌝ }
+{
+    match found {
+        Finding::At(i) => i + 1,
+        Finding::Unknown => near,
+    }
+}
+
+// The written names, of which none stands twice. `near` is where the first is looked for first.
+pub fn resolve_names<'a>(
+    spec: &'a [u8],
+    codes: &'a [u64; CAPACITY],
+    styles: &'a [u64; CAPACITY],
+    names: &'a [u64; CAPACITY],
+    len: usize,
     cells: &[u64],
     area: &[u8],
     from: usize,
     n: usize,
+    near: usize,
     sources: &mut [usize; 64],
     rest: &mut [usize; NAMED],
 ) -> usize
-    requires { ⌜ Naming (now spec) list (now cells) (now area) from n (now sources) (now rest) ⌝ }
-    ensures { λ r. ⌜ Resolved (parametersIn (now (spec .entry)) (list .params)) (now (cells .entry)) (now (area .entry)) (pairsFrom (now (area .entry)) (now (cells .entry)) from n) (now (sources .exit)) (now (rest .exit)) r ⌝ }
+    requires { ⌜ NamesLent (now spec) (now codes) (now styles) (now names) len (now cells) (now area) from n (now sources) (now rest) ⌝ }
+    ensures { λ r. ⌜ NamesResolved (now (spec .entry)) (now (codes .entry)) (now (styles .entry)) (now (names .entry)) len (now (cells .entry)) (now (area .entry)) from n (now (sources .entry)) (now (rest .entry)) (now (sources .exit)) (now (rest .exit)) r ⌝ }
 {
-    let params = list.params;
+    let mut guess = near;
     let mut count = 0;
     let mut k = 0;
     while k < n {
         let pair = from + 4 * k;
-        let found = found_at(
-            spec,
-            &params.codes,
-            &params.styles,
-            &params.names,
-            params.len,
-            cells,
-            area,
-            pair,
-        );
+        let found = found_at(spec, codes, styles, names, len, cells, area, pair, guess);
+        guess = behind(found, guess);
         count = enter(found, pair, sources, rest, count);
         k += 1;
     }

@@ -1,9 +1,10 @@
--- Laws of a search for a name, in this order: the first index that passes a test, as a loop asks for it; what each test on a candidate
--- says; the bytes left to compare. Assumes nothing.
-use mathlib.Core.Path.{_≡_, refl, sym, _∙_}
-use mathlib.Core.Bool.{Bool, true, false, _&&_, and-false}
+-- Laws of a search for a name, in this order: the first index that passes a test, as a loop asks for it; a run of indices in two parts; the
+-- columns searched from a guess on; what each test on a candidate says; the bytes left to compare. Assumes nothing.
+use mathlib.Core.Path.{_≡_, refl, sym, ap, _∙_}
+use mathlib.Core.Bool.{Bool, true, false, cond, _&&_, and-false}
 use mathlib.Core.List.{List}
-use Prim.Native.Nat.{ℕ, suc, _+_, _-_, _/_, _%_, _<_, _≤_}
+use Prim.Native.Nat.{ℕ, zero, suc, min, _+_, _-_, _/_, _%_, _<_, _≤_}
+use native.Mathlib.Nat.{sub-zero}
 use native.Mathlib.Numerals.{add-one}
 use native.Mathlib.Omega.{arith}
 use lib.Dec.{leb}
@@ -15,7 +16,7 @@ use Rattle.rules.proofs.LawsListing.{and-right}
 use Rattle.cells.proofs.LawsText.{sameBytes-length, sameBytes-differs, sameBytes-next}
 use Rattle.builder.specs.Params.{mayBeNamed}
 use Rattle.lookup.specs.declared.Finding.the-variants.{At, Unknown}
-use Rattle.lookup.specs.Lookup.{fits, firstAt}
+use Rattle.lookup.specs.Lookup.{fits, fitsAt, firstAt, findIn, OneFits}
 
 -- ---- from index i on, of n
 
@@ -34,6 +35,58 @@ module _ (test : ℕ → Bool) (i n : ℕ) where
   firstAt-end h =
       let m : n - i ≡ 0 = omega arith in
       rw m
+
+-- ---- a run of indices in two parts
+
+-- what is found is an index of the run, and passes
+pub firstAt-passes : (test : ℕ → Bool) (i n k : ℕ) → firstAt test i n ≡ At k → (k < i + n) × (test k ≡ true)
+firstAt-passes test i zero k e = let z : _≡_ {A = ℕ} 0 1 = cc in absurd (omega arith)
+firstAt-passes test i (suc n) k e = go (test i) refl (firstAt-passes test (suc i) n k)
+  where
+    go : (b : Bool) → test i ≡ b → (firstAt test (suc i) n ≡ At k → (k < suc i + n) × (test k ≡ true)) → (k < i + suc n) × (test k ≡ true)
+    go true p later =
+        let same : At i ≡ At k = sym (ap (λ b. cond b (At i) (firstAt test (suc i) n)) p) ∙ e in
+        let here : i ≡ k = cc in
+        (omega (arith, here), ap test (sym here) ∙ p)
+    go false p later =
+        let behind = later (sym (ap (λ b. cond b (At i) (firstAt test (suc i) n)) p) ∙ e) in
+        (omega (arith, behind .0), behind .1)
+
+-- where none of the second part passes, what is found is found in the first
+pub firstAt-front : (test : ℕ → Bool) (i a b : ℕ) → firstAt test (i + a) b ≡ Unknown → firstAt test i (a + b) ≡ firstAt test i a
+firstAt-front test i zero b e =
+    let z : i + 0 ≡ i = omega arith in
+    let w : 0 + b ≡ b = omega arith in
+    rw w (rw z at e)
+firstAt-front test i (suc a) b e =
+    let z : i + suc a ≡ suc i + a = omega arith in
+    let w : suc a + b ≡ suc (a + b) = omega arith in
+    rw w (ap (λ f. cond (test i) (At i) f) (firstAt-front test (suc i) a b (rw z at e)))
+
+-- ---- the columns searched from a guess on
+
+module _ (area codes styles names : List ℕ) (len : ℕ) (bytes : List ℕ) (count : ℕ) (held : count ≡ min len 64) where
+  abbrev test : ℕ → Bool
+  test = fitsAt area codes styles names bytes
+
+  pub find-whole : firstAt test 0 (count - 0) ≡ findIn area codes styles names len bytes
+  unfolding findIn
+  find-whole = ap (firstAt test 0) (sub-zero count ∙ held)
+
+  module _ (near : ℕ) (below : near < count) where
+    pub find-later : OneFits area codes styles names len bytes → (k : ℕ) → firstAt test near (count - near) ≡ At k → At k ≡ findIn area codes styles names len bytes
+    find-later one k e =
+        let passes = firstAt-passes test near (count - near) k e in
+        sym (one k (omega (arith, passes .0, held)) (passes .1))
+
+    pub find-earlier : firstAt test near (count - near) ≡ Unknown → firstAt test 0 (near - 0) ≡ findIn area codes styles names len bytes
+    find-earlier e =
+        let whole : near + (count - near) ≡ count - 0 = omega arith in
+        let start : 0 + near ≡ near = omega arith in
+        ap (firstAt test 0) (sub-zero near)
+        ∙ sym (firstAt-front test 0 near (count - near) (rw start e))
+        ∙ ap (firstAt test 0) whole
+        ∙ find-whole
 
 length-part : (area : List ℕ) (start size : ℕ) → start + size ≤ length area → length (take size (drop start area)) ≡ size
 length-part area start size h = length-take-le size (drop start area) (simp length-drop (omega arith))

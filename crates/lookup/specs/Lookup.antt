@@ -1,7 +1,8 @@
 -- Looking up a name in the columns of a list, whatever they hold: the first parameter that the name fits.
-use mathlib.Core.Bool.{Bool, cond, _&&_}
+use mathlib.Core.Path.{_≡_}
+use mathlib.Core.Bool.{Bool, true, cond, _&&_}
 use mathlib.Core.List.{List}
-use Prim.Native.Nat.{ℕ, zero, suc, min}
+use Prim.Native.Nat.{ℕ, zero, suc, min, _<_}
 use lib.ListN.{getD}
 use Rattle.rules.specs.Text.{sameBytes, bytesAt, inside}
 use Rattle.rules.specs.Lookup.{Finding as RuleFinding, at, unknown}
@@ -32,6 +33,11 @@ firstAt test i (suc count) = cond (test i) (At i) (firstAt test (suc i) count)
 unfoldable pub findIn : List ℕ → List ℕ → List ℕ → List ℕ → ℕ → List ℕ → Finding
 findIn area codes styles names len bytes = firstAt (fitsAt area codes styles names bytes) 0 (min len 64)
 
--- the same over a list's parameters
+-- no two parameters of the columns have this name: whichever it fits is what is found
+abbrev pub OneFits : List ℕ → List ℕ → List ℕ → List ℕ → ℕ → List ℕ → Type 0
+OneFits area codes styles names len bytes =
+    (i : ℕ) → i < min len 64 → fitsAt area codes styles names bytes i ≡ true → findIn area codes styles names len bytes ≡ At i
+
+-- the finding in a list's columns
 abbrev pub findAmong : List ℕ → Parameters → List ℕ → Finding
 findAmong area p bytes = findIn area (p .codes) (p .styles) (p .names) (p .len) bytes

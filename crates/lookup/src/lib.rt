@@ -4,8 +4,8 @@ use builder::params::CAPACITY;
 use builder::params::nameable;
 use builder::spec::ParametersSpec;
 ghost use mathlib.Core.Path.{_≡_};
-ghost use Prim.Native.Nat.{min};
-ghost use Rattle.lookup.specs.Lookup.{findIn, findAmong};
+ghost use Prim.Native.Nat.{min, _-_, _≤_};
+ghost use Rattle.lookup.specs.Lookup.{fitsAt, firstAt, findIn, findAmong, OneFits};
 
 pub enum Finding {
     At(usize),
@@ -27,8 +27,7 @@ pub fn get_str(list: ParametersSpec, area: &[u8], name: &[u8]) -> Finding
     )
 }
 
-// The same over the columns, lent, so that a caller who asks for many names copies no list. A length that differs drops most candidates,
-// and of the others the first byte that differs; one whose name does not lie inside the area fits nothing.
+// The same over the columns, lent, so that a caller who asks for many names copies no list.
 pub fn find<'a, 'b>(
     area: &'a [u8],
     codes: &'a [u64; CAPACITY],
@@ -39,9 +38,50 @@ pub fn find<'a, 'b>(
 ) -> Finding
     ensures { λ r. ⌜ r ≡ findIn (now (area .entry)) (now (codes .entry)) (now (styles .entry)) (now (names .entry)) len (now (name .entry)) ⌝ }
 {
+    search(area, codes, styles, names, 0, held(len), name)
+}
+
+// The same where no two parameters have this name, with a guess: the candidates from `near` on are tried first. Calls mostly name parameters
+// in the list's order, and then the one behind the last that was found is the one.
+pub fn find_near<'a, 'b>(
+    area: &'a [u8],
+    codes: &'a [u64; CAPACITY],
+    styles: &'a [u64; CAPACITY],
+    names: &'a [u64; CAPACITY],
+    len: usize,
+    near: usize,
+    name: &'b [u8],
+) -> Finding
+    requires { ⌜ OneFits (now area) (now codes) (now styles) (now names) len (now name) ⌝ }
+    ensures { λ r. ⌜ r ≡ findIn (now (area .entry)) (now (codes .entry)) (now (styles .entry)) (now (names .entry)) len (now (name .entry)) ⌝ }
+{
     let count = held(len);
-    let mut i = 0;
-    'candidates: while i < count {
+    if count <= near {
+        return search(area, codes, styles, names, 0, count, name);
+    }
+    let found = search(area, codes, styles, names, near, count, name);
+    match found {
+        Finding::At(i) => Finding::At(i),
+        Finding::Unknown => search(area, codes, styles, names, 0, near, name),
+    }
+}
+
+// The first candidate from `from` on, before `to`, that has this name. A length that differs drops most, and of the others the first byte that
+// differs; one whose name does not lie inside the area fits nothing.
+fn search<'a, 'b>(
+    area: &'a [u8],
+    codes: &'a [u64; CAPACITY],
+    styles: &'a [u64; CAPACITY],
+    names: &'a [u64; CAPACITY],
+    from: usize,
+    to: usize,
+    name: &'b [u8],
+) -> Finding
+    requires { ⌜ (from ≤ to) × (to ≤ 64) ⌝ }
+    ensures { λ r. ⌜ r ≡ firstAt (fitsAt (now (area .entry)) (now (codes .entry)) (now (styles .entry)) (now (names .entry)) (now (name .entry))) from (to - from) ⌝ }
+{
+    let mut i = from;
+    'candidates: while i < to {
         let at = i;
         i += 1;
         let size = (names[at] % 256) as usize;

@@ -79,7 +79,7 @@ fn rows_right(cells: &[u64], area: &[u8], n: usize) -> bool
     true
 }
 
-// How many slots there are for the keys of names. By this remainder, short names that count up fall into slots of their own.
+// How many slots there are for the keys of names. By this remainder, names that differ in two last digits alone fall into slots of their own.
 const SLOTS: usize = 501;
 
 // No nameable name comes twice. Equal names have equal keys and so one slot: a name whose slot is unused so far is new, and only another

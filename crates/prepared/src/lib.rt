@@ -5,7 +5,10 @@ use builder::build;
 use cells::answer::Answer;
 use cells::record::cell;
 use check::is_prepared;
-use collector::collect::bind;
+use collector::collect::Begun;
+use collector::collect::begin;
+use collector::collect::collect_slow;
+use load::indices_in;
 use load::load;
 use row::FRONT;
 use row::ROW;
@@ -56,7 +59,8 @@ pub fn prepare(spec_cells: &[u64], spec: &[u8], out: &mut [u64]) -> Preparation
     Preparation::Written(FRONT + ROW * params.len)
 }
 
-// A call, of any cells and bytes, against cells that are handed over as a prepared list.
+// A call, of any cells and bytes, against cells that are handed over as a prepared list. The short path needs two numbers of the list, so only
+// the general path loads it.
 pub fn bind_prepared(
     prepared: &[u64],
     spec: &[u8],
@@ -69,5 +73,27 @@ pub fn bind_prepared(
     if !is_prepared(prepared, spec) {
         return PreparedBound::NotPrepared;
     }
-    PreparedBound::Bound(bind(load(prepared), spec, cells, area, board))
+    let n = cell(prepared, 0) as usize;
+    let indices = indices_in(prepared, n);
+    let begun = begin(indices.num_positional, n, cells, area, board);
+    match begun {
+        Begun::Ended(ended) => PreparedBound::Bound(ended),
+        Begun::Open(h) => {
+            let params = load(prepared);
+            PreparedBound::Bound(collect_slow(
+                spec,
+                &params.codes,
+                &params.styles,
+                &params.names,
+                &params.default_kinds,
+                &params.default_payloads,
+                params.len,
+                indices,
+                cells,
+                area,
+                h,
+                board,
+            ))
+        }
+    }
 }

@@ -1,5 +1,5 @@
-// A prepared list in the builder's columns, as binding reads it: each row is copied once. What holds of the columns holds of any rows;
-// that they are right is asked before (`check`).
+// A prepared list as binding reads it: counts and indices of the rows, and the rows in the builder's columns, each copied once. What holds of
+// them holds of any rows; that they are right is asked before (`check`).
 use crate::row::DEFAULT_KIND;
 use crate::row::DEFAULT_PAYLOAD;
 use crate::row::FRONT;
@@ -10,7 +10,6 @@ use builder::params::CAPACITY;
 use builder::params::Parameters;
 use builder::spec::DefParamIndices;
 use builder::spec::Index;
-use builder::spec::ParametersSpec;
 ghost use mathlib.Core.Path.{_≡_};
 ghost use mathlib.Core.Bool.{cond, _||_};
 ghost use mathlib.Core.List.{List};
@@ -18,14 +17,12 @@ ghost use Prim.Native.Nat.{ℕ, _+_, _*_, _≤_};
 ghost use lib.Dec.{eqb};
 ghost use lib.ListN.{length};
 ghost use Rattle.cells.specs.Listed.{listed};
-ghost use Rattle.builder.specs.Build.{IsList};
-ghost use Rattle.prepared.specs.Prepared.{listIn};
 ghost use Rattle.prepared.specs.Rows.{paramAt, Whole};
-ghost use Rattle.prepared.specs.Load.{byPosition, onlyByPosition, restOfNames, orAt, IndicesOf};
+ghost use Rattle.prepared.specs.Load.{byPosition, onlyByPosition, restOfNames, orAt, IndicesOf, IsLoaded};
 
-pub(crate) fn load(cells: &[u64]) -> ParametersSpec
+pub(crate) fn load(cells: &[u64]) -> Parameters
     requires { ⌜ Whole (now cells) ⌝ }
-    ensures { λ r. ⌜ ((area : List ℕ) → IsList area r (listIn area (now (cells .entry)))) ⌝ }
+    ensures { λ r. ⌜ IsLoaded (now (cells .entry)) r ⌝ }
 {
     let n = cells[0] as usize;
     let mut params = Parameters {
@@ -46,12 +43,11 @@ pub(crate) fn load(cells: &[u64]) -> ParametersSpec
         params.default_payloads[i] = cells[at + DEFAULT_PAYLOAD];
         i += 1;
     }
-    let indices = indices_in(cells, n);
-    ParametersSpec { params, indices }
+    params
 }
 
 // How many of the n rows are positional-only and how many positional, and where `*args` and `**kwargs` stand.
-fn indices_in(cells: &[u64], n: usize) -> DefParamIndices
+pub(crate) fn indices_in(cells: &[u64], n: usize) -> DefParamIndices
     requires { ⌜ (n ≤ 64) × (2 + 6 * n ≤ length (now cells)) ⌝ }
     ensures { λ r. ⌜ ((area : List ℕ) → IndicesOf (listed (paramAt area (now (cells .entry))) 0 n) r) ⌝ }
 {

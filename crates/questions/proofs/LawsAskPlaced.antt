@@ -110,7 +110,7 @@ module _ (spec : List ℕ) (l : ParametersSpec) (list : Prepared spec l) (cells 
   first-name : (v : Named) (ws : List Named) → namedRemainder qs N ≡ v ∷ ws → v .name .payload ≡ pairAt cells (getD rest 0 0) .payload
   first-name v ws e = first-of area cells kept rest v ws (sym e ∙ r .rest-is)
 
-  pub remainders-asked : judgedAnswer (remaindersAs l cells h rest kept) ≡ (askStarRemainder (hasArgs qs) (starRemainder qs P) then askNamedRemainder (hasKwargs qs) (namedRemainder qs N))
+  pub remainders-asked : judgedAnswer (remaindersAs (l .indices) cells h rest kept) ≡ (askStarRemainder (hasArgs qs) (starRemainder qs P) then askNamedRemainder (hasKwargs qs) (namedRemainder qs N))
   unfolding remaindersAs
   remainders-asked =
       in-turn (lostTo (h .p + h .s) (l .indices .«num_positional») (indexOf (l .indices .args))) (lostTo kept 0 (indexOf (l .indices .kwargs))) (h .p + h .s - l .indices .«num_positional») kept (pairAt cells (getD rest 0 0) .payload)
@@ -130,9 +130,9 @@ module _ (spec : List ℕ) (l : ParametersSpec) (list : Prepared spec l) (cells 
           ap (λ b. askNamedRemainder b (namedRemainder qs N)) (kwargs-found qs ∙ ap isSome (sym (list .is-list .kwargs)))
           ∙ named-asked (indexOf (l .indices .kwargs)) (namedRemainder qs N) kept (pairAt cells (getD rest 0 0) .payload) (remainder-length qs cells area N sources rest kept r few) first-name
 
-  pub placed-asked : judgedAnswer (placedAs l cells h next sources rest kept) ≡ askPlaced qs P N
+  pub placed-asked : judgedAnswer (placedAs (l .params .codes) (l .params .styles) (l .params .names) (l .params .len) (l .indices) cells h next sources rest kept) ≡ askPlaced qs P N
   unfolding placedAs askPlaced place
   placed-asked =
-      missing-asked spec l list (firstMissing (l .params .codes) sources next (l .params .len - next)) (remaindersAs l cells h rest kept) (askStarRemainder (hasArgs qs) (starRemainder qs P) then askNamedRemainder (hasKwargs qs) (namedRemainder qs N)) remainders-asked
+      missing-asked spec l list (firstMissing (l .params .codes) sources next (l .params .len - next)) (remaindersAs (l .indices) cells h rest kept) (askStarRemainder (hasArgs qs) (starRemainder qs P) then askNamedRemainder (hasKwargs qs) (namedRemainder qs N)) remainders-asked
       ∙ ap (λ a. a then askStarRemainder (hasArgs qs) (starRemainder qs P) then askNamedRemainder (hasKwargs qs) (namedRemainder qs N))
       (sym (required-found spec l list cells area P N sources rest kept next upto r h values (length (starRemainder qs P)) (length (namedRemainder qs N))))

@@ -30,7 +30,7 @@ use Rattle.answers.specs.Answer.{answerIn, isRefusal}
 use Rattle.findings.specs.Resolved.{namedAt, Resolved}
 use Rattle.findings.specs.Resolve.{pairsFrom, Naming}
 use Rattle.findings.specs.Found.{firstNamed, firstMissing}
-use Rattle.findings.specs.EntriesDone.{writtenNames, entryAt, entriesIn, entriesAnswer, EntriesDone}
+use Rattle.findings.specs.EntriesDone.{writtenNames, entryAt, entriesIn, entriesAnswer, EntriesReady, EntriesDone}
 use Rattle.questions.specs.Judge.{lostTo, missingAs, missingOr, remaindersAs, placedAs, judgedAnswer, refusing}
 use Rattle.questions.specs.Questions.{askAfterNames, CallReady, Judging}
 use Rattle.answers.specs.declared.answer.Collected.{Collected}
@@ -76,7 +76,7 @@ fine-count true b none missing x y kept n e = let z : _≡_ {A = ℕ} 0 1 = cc i
 fine-count false true none missing x y kept n e = let z : _≡_ {A = ℕ} 0 1 = cc in absurd (omega arith)
 fine-count false false none missing x y kept n e = cc
 
-placed-count : (l : ParametersSpec) (cells : List ℕ) (h : Head) (next : ℕ) (sources rest : List ℕ) (kept n : ℕ) → placedAs l cells h next sources rest kept ≡ Fine n → kept ≡ n
+placed-count : (l : ParametersSpec) (cells : List ℕ) (h : Head) (next : ℕ) (sources rest : List ℕ) (kept n : ℕ) → placedAs (l .params .codes) (l .params .styles) (l .params .names) (l .params .len) (l .indices) cells h next sources rest kept ≡ Fine n → kept ≡ n
 unfolding placedAs remaindersAs
 placed-count l cells h next sources rest kept n e =
     fine-count (lostTo (h .p + h .s) (l .indices .«num_positional») (indexOf (l .indices .args))) (lostTo kept 0 (indexOf (l .indices .kwargs))) (firstMissing (l .params .codes) sources next (l .params .len - next))
@@ -85,7 +85,7 @@ placed-count l cells h next sources rest kept n e =
 -- ---- a refusal, which resolves nothing
 
 -- 20 to 24 hand on no acceptance
-placed-refusing : (l : ParametersSpec) (cells : List ℕ) (h : Head) (next : ℕ) (sources rest : List ℕ) (count : ℕ) → refusing (placedAs l cells h next sources rest count) ≡ true
+placed-refusing : (l : ParametersSpec) (cells : List ℕ) (h : Head) (next : ℕ) (sources rest : List ℕ) (count : ℕ) → refusing (placedAs (l .params .codes) (l .params .styles) (l .params .names) (l .params .len) (l .indices) cells h next sources rest count) ≡ true
 unfolding placedAs remaindersAs
 placed-refusing l cells h next sources rest count =
     first (firstMissing (l .params .codes) sources next (l .params .len - next))
@@ -124,6 +124,12 @@ module _ (spec : List ℕ) (l : ParametersSpec) (cells area : List ℕ) (h : Hea
 
   pub names-ready : (sources rest : List ℕ) → Resolved qs cells area [] sources rest 0 → Naming spec l cells area (namedFrom h) (h .n) sources rest
   names-ready sources rest none-yet = record { list = ready .list; pairs = ready .pairs; apart = ready .apart; empty = none-yet }
+
+  pub few-list-of : l .params .len ≤ 64
+  few-list-of = ready .list .is-list .room
+
+  pub entries-ready : (sources rest : List ℕ) (before : ℕ) → Resolved qs cells area (writtenNames area cells h) sources rest before → EntriesReady spec l cells area h next sources rest before
+  entries-ready sources rest before resolved = record { list = ready .list; P = P; upto = ready .upto; few = ready .few; keys-formed = ready .keys-formed; written = resolved }
 
   pub asked-star : h .starKind ≡ 2 → refuse 15 answers.none ≡ askBinding qs c
   unfolding askBinding
@@ -192,7 +198,7 @@ module _ (spec : List ℕ) (l : ParametersSpec) (cells area : List ℕ) (h : Hea
             ready .few .few-d,
           )
 
-      pub judged-placed : (judged : Judged) → judged ≡ placedAs l cells h next sources rest count → Judging qs c cells area (askAfterNames qs c) sources rest judged
+      pub judged-placed : (judged : Judged) → judged ≡ placedAs (l .params .codes) (l .params .styles) (l .params .names) (l .params .len) (l .indices) cells h next sources rest count → Judging qs c cells area (askAfterNames qs c) sources rest judged
       judged-placed judged is =
           record {
             answer =

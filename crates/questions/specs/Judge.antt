@@ -9,7 +9,7 @@ use Rattle.rules.specs.Answer.{Answer, fine}
 use Rattle.rules.specs.CallRecord.{Head}
 use Rattle.cells.specs.Record.{pairAt}
 use Rattle.builder.specs.Spec.{indexOf}
-use Rattle.builder.specs.declared.spec.ParametersSpec.{ParametersSpec}
+use Rattle.builder.specs.declared.spec.DefParamIndices.{DefParamIndices}
 use Rattle.calls.specs.Head.{Few}
 use Rattle.answers.specs.Answer.{answerIn, isRefusal}
 use Rattle.findings.specs.Found.{firstMissing}
@@ -30,22 +30,22 @@ missingAs (suc zero) name = Missing name
 missingAs (suc (suc style)) name = MissingNamedOnly name
 
 -- 23, and then 24
-unfoldable pub remaindersAs : ParametersSpec → List ℕ → Head → List ℕ → ℕ → Judged
-remaindersAs l cells h rest count =
-    cond (lostTo (h .p + h .s) (l .indices .«num_positional») (indexOf (l .indices .args))) (Refused (ExtraPositionalArg (h .p + h .s - l .indices .«num_positional»)))
-    (cond (lostTo count 0 (indexOf (l .indices .kwargs))) (Refused (ExtraNamedArg count (pairAt cells (getD rest 0 0) .payload))) (Fine count))
+unfoldable pub remaindersAs : DefParamIndices → List ℕ → Head → List ℕ → ℕ → Judged
+remaindersAs indices cells h rest count =
+    cond (lostTo (h .p + h .s) (indices .«num_positional») (indexOf (indices .args))) (Refused (ExtraPositionalArg (h .p + h .s - indices .«num_positional»)))
+    (cond (lostTo count 0 (indexOf (indices .kwargs))) (Refused (ExtraNamedArg count (pairAt cells (getD rest 0 0) .payload))) (Fine count))
 
 -- 20 to 22, and then the rest
 abbrev pub missingOr : Option ℕ → (ℕ → Collected) → Judged → Judged
 missingOr none missing rest = rest
 missingOr (some i) missing rest = Refused (missing i)
 
-unfoldable pub placedAs : ParametersSpec → List ℕ → Head → ℕ → List ℕ → List ℕ → ℕ → Judged
-placedAs l cells h next sources rest count =
-    missingOr (firstMissing (l .params .codes) sources next (l .params .len - next)) (λ i. missingAs (getD (l .params .styles) i 0) (getD (l .params .names) i 0)) (remaindersAs l cells h rest count)
+unfoldable pub placedAs : (codes styles names : List ℕ) (len : ℕ) → DefParamIndices → List ℕ → Head → ℕ → List ℕ → List ℕ → ℕ → Judged
+placedAs codes styles names len indices cells h next sources rest count =
+    missingOr (firstMissing codes sources next (len - next)) (λ i. missingAs (getD styles i 0) (getD names i 0)) (remaindersAs indices cells h rest count)
 
-pub record PlacedReady (l : ParametersSpec) (h : Head) : Type 0 where
-  pub room : l .params .len ≤ 64
+pub record PlacedReady (len : ℕ) (h : Head) : Type 0 where
+  pub room : len ≤ 64
   pub few : Few 64 h
 
 -- 01's answer

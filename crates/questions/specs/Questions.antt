@@ -8,15 +8,17 @@ use lib.ListN.{length, getD}
 use Rattle.rules.specs.Text.{differ}
 use Rattle.rules.specs.Value.{noValue, wellFormedKey}
 use Rattle.rules.specs.Answer.{Answer, _then_, ask}
-use Rattle.rules.specs.CallRecord.{Head, Call, entriesOf, positionalsOf, namedOf}
+use Rattle.rules.specs.CallRecord.{Head, Call, Named, entriesOf, positionalsOf, namedOf}
 use Rattle.rules.specs.Parameters.{Parameter, positionalCount}
+use Rattle.rules.specs.Collection.{callOf}
 use Rattle.rules.specs.Binding.{textsOf, starPasses, doublePasses, askEntries, askPlaced}
 use Rattle.cells.specs.Record.{pairAt}
 use Rattle.builder.specs.Params.{parametersIn}
+use Rattle.builder.specs.declared.spec.DefParamIndices.{DefParamIndices}
 use Rattle.builder.specs.declared.spec.ParametersSpec.{ParametersSpec}
 use Rattle.calls.specs.Head.{Few, namedFrom, entriesFrom}
 use Rattle.findings.specs.Resolved.{Resolved}
-use Rattle.findings.specs.Resolve.{Prepared, Pairs}
+use Rattle.findings.specs.Resolve.{Prepared, Pairs, lentList}
 use Rattle.findings.specs.EntriesDone.{writtenNames, entriesIn}
 use Rattle.calls.specs.Values.{positionalAt}
 use Rattle.questions.specs.Judge.{judgedAnswer, refusing}
@@ -50,3 +52,24 @@ pub record Judging (qs : List Parameter) (c : Call) (cells area : List ℕ) (ask
   pub answer : judgedAnswer r ≡ asked
   pub refusal : refusing r ≡ true
   pub resolved : (count : ℕ) → r ≡ Fine count → Resolved qs cells area (namedOf c) sources rest count
+
+-- ---- a list that is lent by its columns
+
+-- the columns that names are looked up in, with the indices, and two columns of defaults make a list
+abbrev pub lentWith : (codes styles names : List ℕ) (len : ℕ) → DefParamIndices → (kinds payloads : List ℕ) → ParametersSpec
+lentWith codes styles names len indices kinds payloads = lentList codes styles names len (record { kinds = kinds; payloads = payloads; indices = indices })
+
+-- they are those of a prepared list, and the names in N are resolved
+pub record ListLent (spec codes styles names : List ℕ) (len : ℕ) (indices : DefParamIndices) (cells area : List ℕ) (h : Head) (next : ℕ) (N : List Named) (sources rest : List ℕ) (count : ℕ) : Type 0 where
+  pub kinds : List ℕ
+  pub payloads : List ℕ
+  pub call : CallReady spec (lentWith codes styles names len indices kinds payloads) cells area h next (callOf cells area)
+  pub resolved : Resolved (parametersIn spec (lentWith codes styles names len indices kinds payloads .params)) cells area N sources rest count
+
+-- and then `asked` is answered of each such list that has these columns
+abbrev pub JudgedLent : (spec codes styles names : List ℕ) (len : ℕ) (indices : DefParamIndices) (cells area : List ℕ) (h : Head) (next : ℕ) (N : List Named) (sources rest : List ℕ) (count : ℕ)
+    → (List Parameter → Call → Answer) → (sourcesAfter restAfter : List ℕ) → Judged → Type 0
+JudgedLent spec codes styles names len indices cells area h next N sources rest count asked sourcesAfter restAfter r =
+    (kinds payloads : List ℕ) → CallReady spec (lentWith codes styles names len indices kinds payloads) cells area h next (callOf cells area)
+    → Resolved (parametersIn spec (lentWith codes styles names len indices kinds payloads .params)) cells area N sources rest count
+    → Judging (parametersIn spec (lentWith codes styles names len indices kinds payloads .params)) (callOf cells area) cells area (asked (parametersIn spec (lentWith codes styles names len indices kinds payloads .params)) (callOf cells area)) sourcesAfter restAfter r

@@ -6,17 +6,16 @@
 // 15 the star can be iterated; 16 no slot is filled by position and by a written name; 17 the double star is a dictionary; 18 and 19
 // entry by entry: a text, and free; 20 to 22 no required slot is empty; 23 and 24 what is left over has *args and **kwargs to go to.
 use answers::answer::Collected;
+use builder::params::CAPACITY;
+use builder::spec::DefParamIndices;
 use builder::spec::Index;
-use builder::spec::ParametersSpec;
 use calls::head::Head;
 use cells::record::pair_at;
 use findings::found::first_missing;
 use findings::resolve::NAMED;
 ghost use mathlib.Core.Path.{_≡_};
-ghost use Rattle.calls.specs.Head.{headOf};
+ghost use Rattle.calls.specs.Head.{headOf, Few};
 ghost use Rattle.questions.specs.Judge.{lostTo, missingAs, remaindersAs, placedAs, PlacedReady};
-ghost use Prim.Native.Nat.{_<_};
-ghost use lib.ListN.{getD};
 ghost use Rattle.builder.specs.Spec.{indexOf};
 
 // Nothing against the call, and how many pairs the named remainder has; or the refusal.
@@ -49,47 +48,40 @@ fn lost(count: usize, room: usize, taker: Index) -> bool
     }
 }
 
-// 20 to 24, of names that are resolved.
-pub fn ask_placed(
-    list: ParametersSpec,
+// 20 to 24, of names that are resolved, against a list that is lent by its columns.
+pub fn ask_placed<'a>(
+    codes: &'a [u64; CAPACITY],
+    styles: &'a [u64; CAPACITY],
+    names: &'a [u64; CAPACITY],
+    len: usize,
+    indices: DefParamIndices,
     cells: &[u64],
     h: Head,
     next: usize,
-    sources: &[usize; 64],
+    sources: &'a [usize; 64],
     rest: &[usize; NAMED],
     count: usize,
 ) -> Judged
-    requires { ⌜ PlacedReady list (headOf h) ⌝ }
-    ensures { λ r. ⌜ r ≡ placedAs list (now (cells .entry)) (headOf h) next (now (sources .entry)) (now (rest .entry)) count ⌝ }
+    requires { ⌜ PlacedReady len (headOf h) ⌝ }
+    ensures { λ r. ⌜ r ≡ placedAs (now (codes .entry)) (now (styles .entry)) (now (names .entry)) len indices (now (cells .entry)) (headOf h) next (now (sources .entry)) (now (rest .entry)) count ⌝ }
 {
-    let params = list.params;
-    match first_missing(&params.codes, sources, next, params.len) {
-        Index::At(i) => Judged::Refused(missing_at(list, i)),
-        Index::Absent => ask_remainders(list, cells, h, rest, count),
+    match first_missing(codes, sources, next, len) {
+        Index::At(i) => Judged::Refused(missing(styles[i], names[i])),
+        Index::Absent => ask_remainders(indices, cells, h, rest, count),
     }
-}
-
-// The refusal for the parameter at an index.
-fn missing_at(list: ParametersSpec, i: usize) -> Collected
-    requires { ⌜ i < 64 ⌝ }
-    ensures { λ r. ⌜ r ≡ missingAs (getD (list .params .styles) i 0) (getD (list .params .names) i 0) ⌝ }
-{
-    let params = list.params;
-    missing(params.styles[i], params.names[i])
 }
 
 // 23 and 24.
 fn ask_remainders(
-    list: ParametersSpec,
+    indices: DefParamIndices,
     cells: &[u64],
     h: Head,
     rest: &[usize; NAMED],
     count: usize,
 ) -> Judged
-    requires { ⌜ PlacedReady list (headOf h) ⌝ }
-    ensures { λ r. ⌜ r ≡ remaindersAs list (now (cells .entry)) (headOf h) (now (rest .entry)) count ⌝ }
+    requires { ⌜ Few 64 (headOf h) ⌝ }
+    ensures { λ r. ⌜ r ≡ remaindersAs indices (now (cells .entry)) (headOf h) (now (rest .entry)) count ⌝ }
 {
-    let indices = list.indices;
     let positional = indices.num_positional;
     let args = indices.args;
     let kwargs = indices.kwargs;

@@ -28,8 +28,7 @@ use Rattle.rules.proofs.LawsSheetOutput.{all-keep}
 use Rattle.cells.specs.Text.{partAt}
 use Rattle.cells.specs.Record.{pairAt}
 use Rattle.cells.specs.Listed.{listed}
-use Rattle.cells.proofs.LawsListed.{length-listed}
-use Rattle.calls.proofs.LawsEach.{all-at}
+use Rattle.cells.proofs.LawsListed.{length-listed, all-at, getD-listed}
 use Rattle.builder.specs.Params.{kindFor, parameterOf, parameterAt, parametersIn}
 use Rattle.builder.specs.declared.params.Parameters.{Parameters}
 use Rattle.builder.specs.declared.spec.ParametersSpec.{ParametersSpec}
@@ -66,14 +65,6 @@ shown-code spec call (suc (suc (suc (suc (suc zero))))) v w x = refl
 shown-code spec call (suc (suc (suc (suc (suc (suc zero)))))) v w x = refl
 shown-code spec call (suc (suc (suc (suc (suc (suc (suc zero))))))) v w x = refl
 shown-code spec call (suc (suc (suc (suc (suc (suc (suc (suc code)))))))) v w x = refl
-
-getD-listed : {X : Type 0} (f : ℕ → X) (i n k : ℕ) (d : X) → k < n → getD (listed f i n) k d ≡ f (i + k)
-getD-listed f i zero k d h = absurd (omega arith)
-getD-listed f i (suc n) zero d h = ap f (sym (add-zero i))
-getD-listed f i (suc n) (suc k) d h = getD-listed f (suc i) n k d (omega arith) ∙ ap f (step i k)
-  where
-    step : (a b : ℕ) → suc a + b ≡ a + suc b
-    step a b = omega arith
 
 length-from : {X Y : Type 0} (f : ℕ → X → Y) (i : ℕ) (xs : List X) → length (mapFrom f i xs) ≡ length xs
 length-from f i [] = refl

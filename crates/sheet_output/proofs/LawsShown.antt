@@ -29,7 +29,8 @@ use Rattle.rules.proofs.LawsRecord.{length-writeEach, readEach-writeEach, value
 use Rattle.rules.proofs.LawsSheetOutput.{printableSlot, printable-inside, printable-bytes, parameter-text}
 use Rattle.cells.specs.Record.{pairAt}
 use Rattle.cells.specs.Value.{value, wellFormedSlot}
-use Rattle.calls.proofs.LawsEach.{each-at, all-at}
+use Rattle.cells.proofs.LawsListed.{all-at}
+use Rattle.calls.proofs.LawsEach.{each-at}
 use Rattle.sheet_output.specs.Line.{shownName, shownValue, shownAs}
 use Rattle.sheet_output.specs.Parts.{linesTo}
 use Rattle.sheet_output.proofs.LawsLine.{shownAs-plain}

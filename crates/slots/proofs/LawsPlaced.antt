@@ -25,7 +25,7 @@ use Rattle.cells.specs.Listed.{listed}
 use Rattle.builder.specs.Params.{kindFor, parameterOf, parameterAt, parametersIn}
 use Rattle.builder.specs.declared.params.Parameters.{Parameters}
 use Rattle.builder.specs.declared.spec.ParametersSpec.{ParametersSpec}
-use Rattle.cells.proofs.LawsListed.{length-listed, listed-same}
+use Rattle.cells.proofs.LawsListed.{length-listed, listed-same, getD-listed}
 use Rattle.calls.specs.Places.{positionAt}
 use Rattle.findings.specs.Resolved.{sourceValue, Resolved}
 use Rattle.findings.specs.Resolve.{Prepared}
@@ -37,14 +37,6 @@ use Rattle.findings.proofs.LawsAsked.{repeatedAt, missingAt, repeats-first, req
 use Rattle.findings.proofs.LawsNames.{anyParameter, length-list}
 
 -- ---- a list given by its elements
-
-pub getD-listed : {X : Type 0} (f : ℕ → X) (i n k : ℕ) (d : X) → k < n → getD (listed f i n) k d ≡ f (i + k)
-getD-listed f i zero k d h = absurd (omega arith)
-getD-listed f i (suc n) zero d h = ap f (sym (add-zero i))
-getD-listed f i (suc n) (suc k) d h = getD-listed f (suc i) n k d (omega arith) ∙ ap f (step i k)
-  where
-    step : (a b : ℕ) → suc a + b ≡ a + suc b
-    step a b = omega arith
 
 mapFrom-listed : {X Y : Type 0} (f : ℕ → X → Y) (g : ℕ → X) (i n : ℕ) → mapFrom f i (listed g i n) ≡ listed (λ k. f k (g k)) i n
 mapFrom-listed f g i zero = refl

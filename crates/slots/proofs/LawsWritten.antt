@@ -70,9 +70,9 @@ module _ (slots : List rules.Slot) (values : List Value) (names : List Named) (l
       first : stored (stored before 0 (writeEach slotCells slots)) (2 * len) (writeEach valueCells values) ≡ stored before 0 (writeEach slotCells slots ++ writeEach valueCells values)
       first = stored-stored before (writeEach slotCells slots) (writeEach valueCells values) 0 (2 * len) (omega (arith, slots-wide)) (omega (arith, values-wide))
 
-module _ (l : ParametersSpec) (cells : List ℕ) (h : Head) (next : ℕ) (sources rest : List ℕ) (count star : ℕ) (before : List ℕ) (ready : BoardReady l cells h rest count before) (left : star ≡ starLeft l h) where
+module _ (codes kinds payloads : List ℕ) (len positional : ℕ) (cells : List ℕ) (h : Head) (next : ℕ) (sources rest : List ℕ) (count star : ℕ) (before : List ℕ) (ready : BoardReady len positional cells h rest count before) (left : star ≡ starLeft positional h) where
   abbrev slots-of : List rules.Slot
-  slots-of = slotsOf (l .params .codes) (l .params .«default_kinds») (l .params .«default_payloads») sources cells h next star count (l .params .len)
+  slots-of = slotsOf codes kinds payloads sources cells h next star count len
 
   abbrev counted : Filled → Counts
   counted f = record { taken = f .taken; defaulted = f .defaulted; star = star; named = count }
@@ -84,11 +84,11 @@ module _ (l : ParametersSpec) (cells : List ℕ) (h : Head) (next : ℕ) (source
       least = omega (arith, ready .held .few, ready .held .pairs)
 
   -- the cells fit
-  pub written-fits : (area : List ℕ) → length (writtenIn l area cells h next sources rest count) ≤ length before
+  pub written-fits : (area : List ℕ) → length (writtenIn codes kinds payloads len positional area cells h next sources rest count) ≤ length before
   written-fits area =
       omega (
         arith,
-        parts-length (slotsIn l cells h next sources count) (valuesIn cells h (l .indices .«num_positional») (starLeft l h)) (heldNames area cells rest count) (l .params .len) (starLeft l h) count (length-listed _ 0 (l .params .len)) (length-listed (positionalAt cells h) (l .indices .«num_positional») (starLeft l h)) (held-length area),
+        parts-length (slotsIn codes kinds payloads len positional cells h next sources count) (valuesIn cells h positional (starLeft positional h)) (heldNames area cells rest count) len (starLeft positional h) count (length-listed _ 0 len) (length-listed (positionalAt cells h) positional (starLeft positional h)) (held-length area),
         ready .room,
         ready .few .few-p,
         ready .few .few-s,
@@ -97,20 +97,20 @@ module _ (l : ParametersSpec) (cells : List ℕ) (h : Head) (next : ℕ) (source
       )
 
   pub board-written : (slots-in values-in after : List ℕ) (f : Filled) → Filling slots-of before slots-in f
-      → values-in ≡ stored slots-in (2 * l .params .len) (writeEach valueCells (valuesIn cells h (l .indices .«num_positional») star))
-      → ((area : List ℕ) → after ≡ stored values-in (2 * l .params .len + 2 * star) (writeEach namedCells (heldNames area cells rest count)))
-      → BoardWritten l cells h next sources rest count before after (counted f)
+      → values-in ≡ stored slots-in (2 * len) (writeEach valueCells (valuesIn cells h positional star))
+      → ((area : List ℕ) → after ≡ stored values-in (2 * len + 2 * star) (writeEach namedCells (heldNames area cells rest count)))
+      → BoardWritten codes kinds payloads len positional cells h next sources rest count before after (counted f)
   board-written slots-in values-in after f fill ev en =
       record {
         board =
             λ area.
             en area
-            ∙ ap (λ b. stored b (2 * l .params .len + 2 * star) (writeEach namedCells (heldNames area cells rest count))) (ev ∙ ap (λ b. stored b (2 * l .params .len) (writeEach valueCells (valuesIn cells h (l .indices .«num_positional») star))) (fill .board))
-            ∙ parts-stored slots-of (valuesIn cells h (l .indices .«num_positional») star) (heldNames area cells rest count) (l .params .len) star count (length-listed _ 0 (l .params .len)) (length-listed (positionalAt cells h) (l .indices .«num_positional») star) (held-length area) before
+            ∙ ap (λ b. stored b (2 * len + 2 * star) (writeEach namedCells (heldNames area cells rest count))) (ev ∙ ap (λ b. stored b (2 * len) (writeEach valueCells (valuesIn cells h positional star))) (fill .board))
+            ∙ parts-stored slots-of (valuesIn cells h positional star) (heldNames area cells rest count) len star count (length-listed _ 0 len) (length-listed (positionalAt cells h) positional star) (held-length area) before
             (omega (arith, ready .room, ready .few .few-p, ready .few .few-s, ready .held .few, ready .long))
-            ∙ ap (λ n. stored before 0 (writeEach slotCells (slotsOf (l .params .codes) (l .params .«default_kinds») (l .params .«default_payloads») sources cells h next n count (l .params .len)) ++ (writeEach valueCells (valuesIn cells h (l .indices .«num_positional») n) ++ writeEach namedCells (heldNames area cells rest count)))) left;
-        taken = fill .taken ∙ ap (λ n. tally rules.isTaken (slotsOf (l .params .codes) (l .params .«default_kinds») (l .params .«default_payloads») sources cells h next n count (l .params .len))) left;
-        defaulted = fill .defaulted ∙ ap (λ n. tally rules.isDefaulted (slotsOf (l .params .codes) (l .params .«default_kinds») (l .params .«default_payloads») sources cells h next n count (l .params .len))) left;
+            ∙ ap (λ n. stored before 0 (writeEach slotCells (slotsOf codes kinds payloads sources cells h next n count len) ++ (writeEach valueCells (valuesIn cells h positional n) ++ writeEach namedCells (heldNames area cells rest count)))) left;
+        taken = fill .taken ∙ ap (λ n. tally rules.isTaken (slotsOf codes kinds payloads sources cells h next n count len)) left;
+        defaulted = fill .defaulted ∙ ap (λ n. tally rules.isDefaulted (slotsOf codes kinds payloads sources cells h next n count len)) left;
         star = left;
         named = refl;
       }
@@ -129,11 +129,11 @@ module _ (spec : List ℕ) (l : ParametersSpec) (list : Prepared spec l) (cells 
   abbrev qs : List Parameter
   qs = parametersIn spec (l .params)
 
-  pub star-length : length (rules.starRemainder qs P) ≡ starLeft l h
+  pub star-length : length (rules.starRemainder qs P) ≡ starLeft (l .indices .«num_positional») h
   unfolding rules.starRemainder
   star-length = length-drop (positionalCount qs) P ∙ ap₂ (λ a b. a - b) long (sym (list .is-list .positional))
 
-  star-is : rules.starRemainder qs P ≡ valuesIn cells h (l .indices .«num_positional») (starLeft l h)
+  star-is : rules.starRemainder qs P ≡ valuesIn cells h (l .indices .«num_positional») (starLeft (l .indices .«num_positional») h)
   unfolding rules.starRemainder
   star-is = elements (positionalAt cells h) noValue (l .indices .«num_positional») (rules.starRemainder qs P) each ∙ ap (listed (positionalAt cells h) (l .indices .«num_positional»)) star-length
     where
@@ -143,22 +143,22 @@ module _ (spec : List ℕ) (l : ParametersSpec) (list : Prepared spec l) (cells 
           ∙ values (positionalCount qs + k) (omega (arith, length-drop (positionalCount qs) P))
           ∙ ap (λ n. positionalAt cells h (n + k)) (sym (list .is-list .positional))
 
-  place-slots : rules.place qs P N ≡ slotsIn l cells h next sources count
+  place-slots : rules.place qs P N ≡ slotsIn (l .params .codes) (l .params .«default_kinds») (l .params .«default_payloads») (l .params .len) (l .indices .«num_positional») cells h next sources count
   place-slots =
-      place-is spec l list cells area P N sources rest count next upto r h values (starLeft l h) count
+      place-is spec l list cells area P N sources rest count next upto r h values (starLeft (l .indices .«num_positional») h) count
       ∙ slots-are spec l list cells area P N sources rest count next upto r h values (length (rules.starRemainder qs P)) (length (rules.namedRemainder qs N))
       ∙ ap₂ (λ a b. slotsOf (l .params .codes) (l .params .«default_kinds») (l .params .«default_payloads») sources cells h next a b (l .params .len)) star-length (remainder-length qs cells area N sources rest count r few)
 
-  written-is : written qs P N ≡ writtenIn l area cells h next sources rest count
+  written-is : written qs P N ≡ writtenIn (l .params .codes) (l .params .«default_kinds») (l .params .«default_payloads») (l .params .len) (l .indices .«num_positional») area cells h next sources rest count
   unfolding written
   written-is = ap₂ (λ a b. writeEach slotCells a ++ b) place-slots (ap₂ (λ a b. writeEach valueCells a ++ writeEach namedCells b) star-is (r .rest-is))
 
-  module _ (before after : List ℕ) (c : Counts) (so : BoardWritten l cells h next sources rest count before after c) where
-    pub board-placed : BoardReady l cells h rest count before → after ≡ boardAfter qs P N before
+  module _ (before after : List ℕ) (c : Counts) (so : BoardWritten (l .params .codes) (l .params .«default_kinds») (l .params .«default_payloads») (l .params .len) (l .indices .«num_positional») cells h next sources rest count before after c) where
+    pub board-placed : BoardReady (l .params .len) (l .indices .«num_positional») cells h rest count before → after ≡ boardAfter qs P N before
     unfolding boardAfter
     board-placed ready =
         so .board area ∙ ap (stored before 0) (sym written-is)
-        ∙ stored-first before (written qs P N) (rw written-is (written-fits l cells h next sources rest count (starLeft l h) before ready refl area))
+        ∙ stored-first before (written qs P N) (rw written-is (written-fits (l .params .codes) (l .params .«default_kinds») (l .params .«default_payloads») (l .params .len) (l .indices .«num_positional») cells h next sources rest count (starLeft (l .indices .«num_positional») h) before ready refl area))
 
     pub counts-placed : answer.countsOf c ≡ rules.countsOf qs P N
     unfolding rules.countsOf

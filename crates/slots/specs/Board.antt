@@ -11,7 +11,6 @@ use Rattle.rules.specs.Placement as rules
 use Rattle.rules.specs.Board.{slotCells, namedCells}
 use Rattle.cells.specs.Record.{pairAt}
 use Rattle.cells.specs.Out.{stored}
-use Rattle.builder.specs.declared.spec.ParametersSpec.{ParametersSpec}
 use Rattle.calls.specs.Head.{Few}
 use Rattle.calls.specs.Values.{valuesIn}
 use Rattle.findings.specs.Entries.{heldNames}
@@ -26,31 +25,32 @@ pub record RestHeld (cells rest : List ℕ) (count : ℕ) : Type 0 where
   pub text : (j : ℕ) → j < count → pairAt cells (getD rest j 0) .kind ≡ callText
 
 -- how many values of P find no positional parameter
-abbrev pub starLeft : ParametersSpec → Head → ℕ
-starLeft l h = h .p + h .s - l .indices .«num_positional»
+abbrev pub starLeft : ℕ → Head → ℕ
+starLeft positional h = h .p + h .s - positional
 
--- the slots of a list, where the named remainder has `count` elements
-abbrev pub slotsIn : ParametersSpec → List ℕ → Head → ℕ → List ℕ → ℕ → List rules.Slot
-slotsIn l cells h next sources count =
-    slotsOf (l .params .codes) (l .params .«default_kinds») (l .params .«default_payloads») sources cells h next (starLeft l h) count (l .params .len)
+-- the slots of a list, by its columns, how many parameters it has and how many of them are positional, where the named remainder has `count`
+-- elements
+abbrev pub slotsIn : (codes kinds payloads : List ℕ) (len positional : ℕ) → List ℕ → Head → ℕ → List ℕ → ℕ → List rules.Slot
+slotsIn codes kinds payloads len positional cells h next sources count =
+    slotsOf codes kinds payloads sources cells h next (starLeft positional h) count len
 
 -- the cells that are written
-abbrev pub writtenIn : ParametersSpec → List ℕ → List ℕ → Head → ℕ → List ℕ → List ℕ → ℕ → List ℕ
-writtenIn l area cells h next sources rest count =
-    writeEach slotCells (slotsIn l cells h next sources count)
-    ++ (writeEach valueCells (valuesIn cells h (l .indices .«num_positional») (starLeft l h)) ++ writeEach namedCells (heldNames area cells rest count))
+abbrev pub writtenIn : (codes kinds payloads : List ℕ) (len positional : ℕ) → List ℕ → List ℕ → Head → ℕ → List ℕ → List ℕ → ℕ → List ℕ
+writtenIn codes kinds payloads len positional area cells h next sources rest count =
+    writeEach slotCells (slotsIn codes kinds payloads len positional cells h next sources count)
+    ++ (writeEach valueCells (valuesIn cells h positional (starLeft positional h)) ++ writeEach namedCells (heldNames area cells rest count))
 
 -- a list and a call within the limits, and a board that has room for them
-pub record BoardReady (l : ParametersSpec) (cells : List ℕ) (h : Head) (rest : List ℕ) (count : ℕ) (board : List ℕ) : Type 0 where
-  pub room : l .params .len ≤ 64
-  pub positional : l .indices .«num_positional» ≤ 64
+pub record BoardReady (len positional : ℕ) (cells : List ℕ) (h : Head) (rest : List ℕ) (count : ℕ) (board : List ℕ) : Type 0 where
+  pub room : len ≤ 64
+  pub few-positional : positional ≤ 64
   pub few : Few 64 h
   pub held : RestHeld cells rest count
   pub long : 896 ≤ length board
 
-pub record BoardWritten (l : ParametersSpec) (cells : List ℕ) (h : Head) (next : ℕ) (sources rest : List ℕ) (count : ℕ) (before after : List ℕ) (r : Counts) : Type 0 where
-  pub board : (area : List ℕ) → after ≡ stored before 0 (writtenIn l area cells h next sources rest count)
-  pub taken : r .taken ≡ tally rules.isTaken (slotsIn l cells h next sources count)
-  pub defaulted : r .defaulted ≡ tally rules.isDefaulted (slotsIn l cells h next sources count)
-  pub star : r .star ≡ starLeft l h
+pub record BoardWritten (codes kinds payloads : List ℕ) (len positional : ℕ) (cells : List ℕ) (h : Head) (next : ℕ) (sources rest : List ℕ) (count : ℕ) (before after : List ℕ) (r : Counts) : Type 0 where
+  pub board : (area : List ℕ) → after ≡ stored before 0 (writtenIn codes kinds payloads len positional area cells h next sources rest count)
+  pub taken : r .taken ≡ tally rules.isTaken (slotsIn codes kinds payloads len positional cells h next sources count)
+  pub defaulted : r .defaulted ≡ tally rules.isDefaulted (slotsIn codes kinds payloads len positional cells h next sources count)
+  pub star : r .star ≡ starLeft positional h
   pub named : r .named ≡ count

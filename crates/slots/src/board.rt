@@ -2,7 +2,6 @@
 // Reworked from starlark 0.14.2, src/eval/runtime/params/spec.rs (collect_slow), Apache-2.0.
 use crate::slots::write_slots;
 use answers::answer::Counts;
-use builder::spec::ParametersSpec;
 use calls::head::Head;
 use calls::head::PAIR;
 use calls::head::VALUE;
@@ -21,10 +20,15 @@ ghost use Rattle.calls.specs.Head.{headOf};
 ghost use Rattle.findings.specs.Entries.{heldNames};
 ghost use Rattle.slots.specs.Board.{RestHeld, BoardReady, BoardWritten};
 
-// All of it, and how much there is of each part.
+// All of it, and how much there is of each part. The list is lent by its columns, with how many parameters it has and how many of them are
+// positional.
 pub fn write_board<'a>(
-    list: ParametersSpec,
-    cells: &'a [u64],
+    codes: &'a [u64; 64],
+    kinds: &'a [u64; 64],
+    payloads: &'a [u64; 64],
+    len: usize,
+    positional: usize,
+    cells: &[u64],
     h: Head,
     next: usize,
     sources: &'a [usize; 64],
@@ -32,20 +36,14 @@ pub fn write_board<'a>(
     count: usize,
     board: &mut [u64],
 ) -> Counts
-    requires { ⌜ BoardReady list (now cells) (headOf h) (now rest) count (now board) ⌝ }
-    ensures { λ r. ⌜ BoardWritten list (now (cells .entry)) (headOf h) next (now (sources .entry)) (now (rest .entry)) count (now (board .entry)) (now (board .exit)) r ⌝ }
+    requires { ⌜ BoardReady len positional (now cells) (headOf h) (now rest) count (now board) ⌝ }
+    ensures { λ r. ⌜ BoardWritten (now (codes .entry)) (now (kinds .entry)) (now (payloads .entry)) len positional (now (cells .entry)) (headOf h) next (now (sources .entry)) (now (rest .entry)) count (now (board .entry)) (now (board .exit)) r ⌝ }
 {
-    let positional = list.indices.num_positional;
     let star = left_over(h.p + h.s, positional);
-    let params = list.params;
-    let codes = params.codes;
-    let kinds = params.default_kinds;
-    let payloads = params.default_payloads;
-    let len = params.len;
     let filled = write_slots(
-        &codes,
-        &kinds,
-        &payloads,
+        codes,
+        kinds,
+        payloads,
         sources,
         cells,
         h,

@@ -1,11 +1,8 @@
 -- `calls::slot::key_slot` meets its contract: a text's slot by its bytes in the area, a whole number's by the number.
 -- Assumes nothing.
 use mathlib.Core.Path.{ap, _∙_}
-use mathlib.Core.List.{List}
-use Prim.Native.Nat.{ℕ, _%_}
 use Rattle.rules.specs.Value.{Value}
 use Rattle.cells.specs.Text.{partAt}
-use Rattle.calls.specs.Slots.{slotOf}
 use Rattle.calls.proofs.LawsSlots.{slot-word, slot-number}
 use borrow.Author.Needs.{needs}
 use Rattle.calls.proofs.slot.key_slot.Statement.{statement}

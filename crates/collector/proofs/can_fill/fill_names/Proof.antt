@@ -11,6 +11,7 @@ use Rattle.builder.specs.Params.{parametersIn}
 use Rattle.calls.specs.Head.{headOf, namedFrom}
 use Rattle.lookup.specs.declared.Finding.{Finding}
 use Rattle.findings.specs.Resolve.{foundAt}
+use Rattle.findings.proofs.LawsNames.{one-each}
 use Rattle.collector.specs.CanFill.{isThere, bytesFrom, writtenIn, freeFor}
 use Rattle.collector.proofs.LawsFilling.{Counted}
 use Rattle.collector.proofs.LawsCanFill.{found-below, names-none, names-more, names-stop, names-end}
@@ -52,8 +53,16 @@ add-found-at c =
     let named = c .before .before .before .before .before .before .before .before .before in
     omega (arith, from-near named, c .before .before .before .before .if1 .taken, named .before .before .before .before .before .pre .call .few .few-n)
 
+add-found-at-2 : tie.Need-add-found-at-2 Inv-loop μ-loop
+add-found-at-2 c =
+    let start = c .before .before .before .before .before .before .before .before .before .before .before .before .before .before in
+    omega (arith, c .before .before .before .before .if1 .taken, start .pre .upto, start .pre .call .few .few-n, start .pre .call .few .few-p)
+
 found-at-requires : tie.Need-found-at-requires Inv-loop μ-loop
-found-at-requires c κs = search needs
+found-at-requires c κs =
+    let start = c .before .before .before .before .before .before .before .before .before .before .before .before .before .before in
+    let a = start .args in
+    one-each (a .spec .now) (a .list) (a .cells .now) (a .area .now) (start .pre .call .list)
 
 fill-requires : tie.Need-fill-requires Inv-loop μ-loop
 fill-requires c κs = rw (c .before .found-at .ensures) (found-below _ (c .before .before .before .before .before .before .before .before .before .before .before .before .before .before .before .before .args .list) _ _ _)
@@ -132,6 +141,7 @@ fill-names-spec =
     loop-holds
     mul-found-at
     add-found-at
+    add-found-at-2
     found-at-requires
     fill-requires
     returns

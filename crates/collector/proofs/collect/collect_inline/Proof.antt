@@ -5,8 +5,8 @@ use borrow.Author.Needs.{needs}
 use Rattle.collector.proofs.collect.collect_inline.Statement.{statement}
 use Rattle.collector.proofs.collect.collect_inline.Tie as tie
 
-write-values-requires : tie.Need-write-values-requires
-write-values-requires c κs = search needs
+copy-written-requires : tie.Need-copy-written-requires
+copy-written-requires c κs = search needs
 
 same-length : tie.Need-same-length
 same-length c = search needs
@@ -17,7 +17,7 @@ returns c =
     let start = written .before .before .before .before in
     let a = start .args in
     λ qs call short.
-    short-ends qs call (a .cells .now) (headOf (a .h)) short (start .pre .0) (a .board .now) _ (start .pre .1) (written .write-values .ensures)
+    short-ends qs call (a .cells .now) (headOf (a .h)) short (start .pre .0 .few-p) (a .board .now) _ (start .pre .2) (written .copy-written .ensures)
 
 pub collect-inline-spec : {M : Type 1} → statement M
-collect-inline-spec = tie.close (tie.spec write-values-requires same-length returns)
+collect-inline-spec = tie.close (tie.spec copy-written-requires same-length returns)

@@ -13,16 +13,16 @@ pair-at-requires c κs = search needs
 part-requires : tie.Need-part-requires
 part-requires c κs = search needs
 
-find-requires : tie.Need-find-requires
-find-requires c κs = search needs
+find-near-requires : tie.Need-find-near-requires
+find-near-requires c κs = c .before .before .before .before .before .pre (c .part .result .now)
 
 returns : tie.Need-returns
 unfolding foundIn
 returns c =
     let a = c .before .before .before .before .before .before .args in
-    c .find .ensures
+    c .find-near .ensures
     ∙ ap (findIn (a .spec .now) (a .codes .now) (a .styles .now) (a .names .now) (a .len))
     (c .before .part .ensures ∙ ap (λ v. partAt (a .area .now) (v .payload)) (c .before .before .pair-at .ensures))
 
 pub found-at-spec : {M : Type 1} → statement M
-found-at-spec = tie.close (tie.spec pair-at-requires part-requires find-requires returns)
+found-at-spec = tie.close (tie.spec pair-at-requires part-requires find-near-requires returns)

@@ -111,18 +111,17 @@ loop-less c = search needs
 loop-again : tie.Need-loop-again Inv-loop μ-loop
 loop-again c = let at = c .before .before .before .before .before .before .loop in (search needs, at .inv .1, loaded-next _ _ _ _ _ _ _ (at .inv .2) (omega arith))
 
-indices-in-requires : tie.Need-indices-in-requires Inv-loop μ-loop
-indices-in-requires c κs = search needs
-
 returns : tie.Need-returns Inv-loop μ-loop
 returns c =
-    let cells = c .before .before .before .before .before .args .cells .now in
-    let at = c .before .before .loop in
+    let start = c .before .before .before in
+    let cells = start .args .cells .now in
+    let at = c .before .loop in
     let p = at .params in
-    let e : at .i ≡ p .len = omega (arith, at .inv .0, at .inv .1, c .before .loop-test .left) in
-    λ area.
-    loaded-list cells p (rw e at (at .inv .2)) area (c .indices-in .result) (at .inv .1) (omega (arith, at .inv .1, c .before .before .before .before .before .pre .few))
-    (rw (← at .inv .1) at (c .indices-in .ensures area))
+    let e : at .i ≡ p .len = omega (arith, at .inv .0, at .inv .1, c .loop-test .left) in
+    record {
+      len = at .inv .1;
+      list = λ area d x. loaded-list cells p (rw e at (at .inv .2)) area d (at .inv .1) (omega (arith, at .inv .1, start .pre .few)) (rw (at .inv .1) x);
+    }
 
 pub load-spec : {M : Type 1} → statement M
 load-spec =
@@ -161,5 +160,4 @@ load-spec =
     add-i
     loop-less
     loop-again
-    indices-in-requires
     returns)

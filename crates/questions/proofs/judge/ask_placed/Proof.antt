@@ -1,5 +1,7 @@
+-- `questions::judge::ask_placed` meets its contract: 20 to 22 by the first parameter that is missing, and then 23 and 24. Assumes nothing.
 use mathlib.Core.Path.{sym, ap, _∙_}
 use native.Mathlib.Omega.{arith}
+use Prim.Native.Nat.{_<_}
 use lib.ListN.{getD}
 use Rattle.builder.specs.Spec.{indexOf}
 use Rattle.calls.specs.Head.{headOf}
@@ -16,16 +18,32 @@ first-missing-requires c κs = search needs
 enum-known-i : tie.Need-enum-known-i
 enum-known-i c = search needs
 
-missing-at-requires : tie.Need-missing-at-requires
-missing-at-requires c κs =
-    let start = c .before .before .before .before .before .before .before .before in
+-- the index that is missing is one of the list's
+within : (c : tie.After-i) → c .i .given .0 .0 < 64
+within c =
+    let missing = c .before .before in
+    let start = missing .before .before in
     let a = start .args in
     omega (
       arith,
       start .pre .room,
-      missing-within (a .list .params .codes) (a .sources .now) (a .next) (a .list .params .len) (c .before .i .given .0 .0)
-          (sym (c .before .before .before .first-missing .ensures) ∙ ap indexOf (c .before .i .given .1)),
+      missing-within (a .codes .now) (a .sources .now) (a .next) (a .len) (c .i .given .0 .0) (sym (missing .first-missing .ensures) ∙ ap indexOf (c .i .given .1)),
     )
+
+mul-missing : tie.Need-mul-missing
+mul-missing c = let inside = within (c .before) in search needs
+
+element-copy-out-missing : tie.Need-element-copy-out-missing
+element-copy-out-missing c = within (c .before)
+
+mul-missing-2 : tie.Need-mul-missing-2
+mul-missing-2 c = let inside = within (c .before .before) in search needs
+
+element-copy-out-missing-2 : tie.Need-element-copy-out-missing-2
+element-copy-out-missing-2 c = within (c .before .before)
+
+missing-requires : tie.Need-missing-requires
+missing-requires c κs = search needs
 
 enum-told : tie.Need-enum-told
 enum-told c = search needs
@@ -36,16 +54,20 @@ ask-remainders-requires c κs = search needs
 returns : tie.Need-returns
 unfolding placedAs
 returns c =
-    let a = c .before .before .before .before .before .before .before .before .before .args in
-    ap Refused (c .missing-at .ensures)
-    ∙ sym (ap (λ o. missingOr o (λ i. missingAs (getD (a .list .params .styles) i 0) (getD (a .list .params .names) i 0)) (remaindersAs (a .list) (a .cells .now) (headOf (a .h)) (a .rest .now) (a .count))) (sym (c .before .before .before .before .first-missing .ensures) ∙ ap indexOf (c .before .before .i .given .1)))
+    let i = c .before .before .before .before in
+    let missing = i .before .before in
+    let a = missing .before .before .args in
+    ap Refused (c .missing .ensures)
+    ∙ sym (ap (λ o. missingOr o (λ k. missingAs (getD (a .styles .now) k 0) (getD (a .names .now) k 0)) (remaindersAs (a .indices) (a .cells .now) (headOf (a .h)) (a .rest .now) (a .count))) (sym (missing .first-missing .ensures) ∙ ap indexOf (i .i .given .1)))
 
 returns-2 : tie.Need-returns-2
 unfolding placedAs
 returns-2 c =
-    let a = c .before .before .before .before .before .before .before .before .args in
+    let told = c .before in
+    let missing = told .before .before in
+    let a = missing .before .before .args in
     c .ask-remainders .ensures
-    ∙ sym (ap (λ o. missingOr o (λ i. missingAs (getD (a .list .params .styles) i 0) (getD (a .list .params .names) i 0)) (remaindersAs (a .list) (a .cells .now) (headOf (a .h)) (a .rest .now) (a .count))) (sym (c .before .before .before .first-missing .ensures) ∙ ap indexOf (c .before .enum-told .given .1)))
+    ∙ sym (ap (λ o. missingOr o (λ k. missingAs (getD (a .styles .now) k 0) (getD (a .names .now) k 0)) (remaindersAs (a .indices) (a .cells .now) (headOf (a .h)) (a .rest .now) (a .count))) (sym (missing .first-missing .ensures) ∙ ap indexOf (told .enum-told .given .1)))
 
 pub ask-placed-spec : {M : Type 1} → statement M
 ask-placed-spec =
@@ -53,7 +75,11 @@ ask-placed-spec =
     (tie.spec
     first-missing-requires
     enum-known-i
-    missing-at-requires
+    mul-missing
+    element-copy-out-missing
+    mul-missing-2
+    element-copy-out-missing-2
+    missing-requires
     enum-told
     ask-remainders-requires
     returns

@@ -1,3 +1,4 @@
+-- `questions::judge::ask_remainders` meets its contract: 23 and then 24. Assumes nothing.
 use mathlib.Core.Path.{sym, ap, _∙_}
 use mathlib.Core.Bool.{cond}
 use Prim.Native.Nat.{_+_, _-_}
@@ -19,16 +20,16 @@ add-total c = search needs
 lost-requires : tie.Need-lost-requires
 lost-requires c κs = search needs
 
-sub-t13 : tie.Need-sub-t13
-sub-t13 c =
-    let a = c .before .before .before .before .before .args in
-    omega (arith, lost-more (a .h .p + a .h .s) (a .list .indices .«num_positional») (indexOf (a .list .indices .args)) (sym (c .before .lost .ensures) ∙ c .if1 .taken))
+sub-t12 : tie.Need-sub-t12
+sub-t12 c =
+    let a = c .before .before .before .before .args in
+    omega (arith, lost-more (a .h .p + a .h .s) (a .indices .«num_positional») (indexOf (a .indices .args)) (sym (c .before .lost .ensures) ∙ c .if1 .taken))
 
 returns : tie.Need-returns
 unfolding remaindersAs
 returns c =
-    let a = c .before .before .before .before .before .args in
-    sym (ap (λ b. cond b (Refused (ExtraPositionalArg (a .h .p + a .h .s - a .list .indices .«num_positional»))) (cond (lostTo (a .count) 0 (indexOf (a .list .indices .kwargs))) (Refused (ExtraNamedArg (a .count) (pairAt (a .cells .now) (getD (a .rest .now) 0 0) .payload))) (Fine (a .count)))) (sym (c .before .lost .ensures) ∙ c .if1 .taken))
+    let a = c .before .before .before .before .args in
+    sym (ap (λ b. cond b (Refused (ExtraPositionalArg (a .h .p + a .h .s - a .indices .«num_positional»))) (cond (lostTo (a .count) 0 (indexOf (a .indices .kwargs))) (Refused (ExtraNamedArg (a .count) (pairAt (a .cells .now) (getD (a .rest .now) 0 0) .payload))) (Fine (a .count)))) (sym (c .before .lost .ensures) ∙ c .if1 .taken))
 
 lost-requires-2 : tie.Need-lost-requires-2
 lost-requires-2 c κs = search needs
@@ -42,16 +43,16 @@ pair-at-requires c κs = search needs
 returns-2 : tie.Need-returns-2
 unfolding remaindersAs
 returns-2 c =
-    let a = c .before .before .before .before .before .before .before .before .before .args in
+    let a = c .before .before .before .before .before .before .before .before .args in
     ap (λ v. Refused (ExtraNamedArg (a .count) (v .payload))) (c .pair-at .ensures)
-    ∙ sym (ap (λ b. cond b (Refused (ExtraPositionalArg (a .h .p + a .h .s - a .list .indices .«num_positional»))) (cond (lostTo (a .count) 0 (indexOf (a .list .indices .kwargs))) (Refused (ExtraNamedArg (a .count) (pairAt (a .cells .now) (getD (a .rest .now) 0 0) .payload))) (Fine (a .count)))) (sym (c .before .before .before .before .before .lost .ensures) ∙ c .before .before .before .before .if1 .left)
+    ∙ sym (ap (λ b. cond b (Refused (ExtraPositionalArg (a .h .p + a .h .s - a .indices .«num_positional»))) (cond (lostTo (a .count) 0 (indexOf (a .indices .kwargs))) (Refused (ExtraNamedArg (a .count) (pairAt (a .cells .now) (getD (a .rest .now) 0 0) .payload))) (Fine (a .count)))) (sym (c .before .before .before .before .before .lost .ensures) ∙ c .before .before .before .before .if1 .left)
     ∙ ap (λ b. cond b (Refused (ExtraNamedArg (a .count) (pairAt (a .cells .now) (getD (a .rest .now) 0 0) .payload))) (Fine (a .count))) (sym (c .before .before .before .lost2 .ensures) ∙ c .before .before .if2 .taken))
 
 returns-3 : tie.Need-returns-3
 unfolding remaindersAs
 returns-3 c =
-    let a = c .before .before .before .before .before .before .before .args in
-    sym (ap (λ b. cond b (Refused (ExtraPositionalArg (a .h .p + a .h .s - a .list .indices .«num_positional»))) (cond (lostTo (a .count) 0 (indexOf (a .list .indices .kwargs))) (Refused (ExtraNamedArg (a .count) (pairAt (a .cells .now) (getD (a .rest .now) 0 0) .payload))) (Fine (a .count)))) (sym (c .before .before .before .lost .ensures) ∙ c .before .before .if1 .left)
+    let a = c .before .before .before .before .before .before .args in
+    sym (ap (λ b. cond b (Refused (ExtraPositionalArg (a .h .p + a .h .s - a .indices .«num_positional»))) (cond (lostTo (a .count) 0 (indexOf (a .indices .kwargs))) (Refused (ExtraNamedArg (a .count) (pairAt (a .cells .now) (getD (a .rest .now) 0 0) .payload))) (Fine (a .count)))) (sym (c .before .before .before .lost .ensures) ∙ c .before .before .if1 .left)
     ∙ ap (λ b. cond b (Refused (ExtraNamedArg (a .count) (pairAt (a .cells .now) (getD (a .rest .now) 0 0) .payload))) (Fine (a .count))) (sym (c .before .lost2 .ensures) ∙ c .if2 .left))
 
 pub ask-remainders-spec : {M : Type 1} → statement M
@@ -60,7 +61,7 @@ ask-remainders-spec =
     (tie.spec
     add-total
     lost-requires
-    sub-t13
+    sub-t12
     returns
     lost-requires-2
     element-copy-out-pair-at

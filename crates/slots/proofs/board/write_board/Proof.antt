@@ -1,3 +1,4 @@
+-- `slots::board::write_board` meets its contract: the three parts stand one behind the other. Assumes nothing.
 use native.Mathlib.Omega.{arith}
 use Rattle.calls.specs.Head.{headOf}
 use Rattle.slots.proofs.LawsWritten.{board-written}
@@ -5,56 +6,45 @@ use borrow.Author.Needs.{needs}
 use Rattle.slots.proofs.board.write_board.Statement.{statement}
 use Rattle.slots.proofs.board.write_board.Tie as tie
 
--- src/board.rt:40:26
 add-left-over : tie.Need-add-left-over
 add-left-over c = let pre = c .before .before .before .pre in omega (arith, pre .few .few-p, pre .few .few-s)
 
--- src/board.rt:40:9
 left-over-requires : tie.Need-left-over-requires
 left-over-requires c κs = search needs
 
--- src/board.rt:46:9
 write-slots-requires : tie.Need-write-slots-requires
-write-slots-requires c κs = let pre = c .before .before .before .before .before .before .before .before .before .before .before .before .pre in (pre .room, omega (arith, pre .long))
+write-slots-requires c κs = let pre = c .before .before .before .before .before .pre in (pre .room, omega (arith, pre .long))
 
--- src/board.rt:47:46
 mul-write-values : tie.Need-mul-write-values
-mul-write-values c = let pre = c .before .before .before .before .before .before .before .before .before .before .before .before .before .before .before .pre in omega (arith, pre .room)
+mul-write-values c = let pre = c .before .before .before .before .before .before .before .before .pre in omega (arith, pre .room)
 
--- src/board.rt:47:5
 write-values-requires : tie.Need-write-values-requires
 write-values-requires c κs = search needs
 
--- src/board.rt:48:37
 mul-write-named : tie.Need-mul-write-named
-mul-write-named c = let pre = c .before .before .before .before .before .before .before .before .before .before .before .before .before .before .before .before .before .before .before .pre in omega (arith, pre .room)
+mul-write-named c = let pre = c .before .before .before .before .before .before .before .before .before .before .before .before .pre in omega (arith, pre .room)
 
--- src/board.rt:48:51
 mul-write-named-2 : tie.Need-mul-write-named-2
-mul-write-named-2 c = let pre = c .before .before .before .before .before .before .before .before .before .before .before .before .before .before .before .before .before .before .before .pre in omega (arith, c .before .before .before .before .before .before .before .before .before .before .before .before .before .before .before .left-over .ensures, pre .few .few-p, pre .few .few-s)
+mul-write-named-2 c = let pre = c .before .before .before .before .before .before .before .before .before .before .before .before .pre in omega (arith, c .before .before .before .before .before .before .before .before .left-over .ensures, pre .few .few-p, pre .few .few-s)
 
--- src/board.rt:48:37
 add-write-named : tie.Need-add-write-named
-add-write-named c = let pre = c .before .before .before .before .before .before .before .before .before .before .before .before .before .before .before .before .before .before .before .pre in omega (arith, pre .room, c .before .before .before .before .before .before .before .before .before .before .before .before .before .before .before .left-over .ensures, pre .few .few-p, pre .few .few-s)
+add-write-named c = let pre = c .before .before .before .before .before .before .before .before .before .before .before .before .pre in omega (arith, pre .room, c .before .before .before .before .before .before .before .before .left-over .ensures, pre .few .few-p, pre .few .few-s)
 
--- src/board.rt:48:5
 write-named-requires : tie.Need-write-named-requires
 write-named-requires c κs = search needs
 
--- src/board.rt:26:1
 same-length : tie.Need-same-length
 same-length c = search needs
 
--- src/board.rt:26:1
 returns : tie.Need-returns
 returns c =
     let named = c .before .before in
     let values = named .before .before .before .before in
     let slots = values .before .before .before .before in
-    let left = slots .before .before .before .before .before .before .before .before .before in
+    let left = slots .before .before in
     let start = left .before .before .before .before in
     let a = start .args in
-    board-written (a .list) (a .cells .now) (headOf (a .h)) (a .next) (a .sources .now) (a .rest .now) (a .count) (left .left-over .result) (a .board .now) (start .pre) (left .left-over .ensures)
+    board-written (a .codes .now) (a .kinds .now) (a .payloads .now) (a .len) (a .positional) (a .cells .now) (headOf (a .h)) (a .next) (a .sources .now) (a .rest .now) (a .count) (left .left-over .result) (a .board .now) (start .pre) (left .left-over .ensures)
     _ _ _ (slots .write-slots .result) (slots .write-slots .ensures) (values .write-values .ensures) (named .write-named .ensures)
 
 pub write-board-spec : {M : Type 1} → statement M

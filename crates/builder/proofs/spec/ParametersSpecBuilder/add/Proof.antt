@@ -1,63 +1,114 @@
--- `builder::spec::ParametersSpecBuilder::add` meets its contract: 6, 7, and a plain parameter under the style that stays.
+-- `builder::spec::ParametersSpecBuilder::add` meets its contract: 6 and 7 as `may_add` answers them, and a plain parameter under the style that
+-- stays. Where they are answered well there is room, and every column has 64 entries, so each stores its own.
 -- Assumes nothing.
-use mathlib.Core.Path.{refl, sym, _∙_}
+use mathlib.Core.Path.{_≡_, refl, sym, ap, _∙_}
+use Prim.Native.Nat.{_<_}
 use native.Mathlib.Omega.{arith}
-use borrow.Author.Tests.{not-true, not-false}
+use lib.ListN.{length}
 use borrow.Author.Needs.{needs}
-use Rattle.rules.specs.Parameters.{act}
-use Rattle.builder.specs.Params.{styleOf, stepOf, kindFor}
-use Rattle.builder.proofs.LawsAsk.{act-plain, kind-plain, mayStand-plain}
-use Rattle.builder.proofs.LawsSpec.{adding-6, adding-7, adding-plain}
+use Rattle.rules.specs.Answer.{fine}
+use Rattle.cells.specs.Answer.{answerOf}
+use Rattle.builder.specs.Params.{styleOf, stepOf, askAdding}
+use Rattle.builder.specs.Spec.{paramsOf}
+use Rattle.builder.proofs.LawsParams.{Room, length-held}
+use Rattle.builder.proofs.LawsSpec.{stepping-refused, longer-stored, asked-plain, asked-room, adding-plain}
 use Rattle.builder.proofs.spec.ParametersSpecBuilder.add.Statement.{statement}
 use Rattle.builder.proofs.spec.ParametersSpecBuilder.add.Tie as tie
+
+-- 6 and 7 are answered well
+asked
+    : (c : tie.After-enum-told)
+    → let a = c .before .before .before .before .before .before .before .before .args in
+    let b = a .t1 in
+    askAdding (a .area .now) (b .codes) (b .styles) (b .names) (b .len) (styleOf (b .«current_style»)) (a .s .name) ≡ fine
+asked c = sym (c .before .before .may-add .ensures) ∙ ap answerOf (c .enum-told .given .1)
+
+room : (c : tie.After-enum-told) → c .before .before .before .before .before .before .before .before .args .t1 .len < 64
+room c =
+    let a = c .before .before .before .before .before .before .before .before .args in
+    asked-room (a .area .now) (a .t1) (a .s) (asked c)
+
+may-add-requires : tie.Need-may-add-requires
+may-add-requires c κs = search needs
+
+enum-known-asked : tie.Need-enum-known-asked
+enum-known-asked c = search needs
 
 refused-requires : tie.Need-refused-requires
 refused-requires c κs = search needs
 
 returns : tie.Need-returns
 returns c =
-    let a = c .before .before .before .before .args in
-    let pre = c .before .before .before .before .pre in
+    let a = c .before .before .before .before .before .before .before .before .before .before .args in
+    let pre = c .before .before .before .before .before .before .before .before .before .before .pre in
     rw (c .refused .ensures)
-    (adding-6 (a .area .now) (a .self) (a .s) (kindFor (act (stepOf (a .s)))) (act-plain (a .s) (pre .0) (pre .1))
-    (mayStand-plain (styleOf (a .self .«current_style»)) (kindFor (act (stepOf (a .s)))) (kind-plain (a .s) (pre .0) (pre .1)) ∙ pre .2)
-    (omega (arith, c .before .if1 .taken)))
+    (stepping-refused (a .area .now) (a .t1) (stepOf (a .s)) _
+    (asked-plain (a .area .now) (a .t1) (a .s) (pre .0) (pre .1) (pre .2)
+    ∙ sym (c .before .before .before .before .may-add .ensures)
+    ∙ ap answerOf (c .before .before .asked .given .1)))
 
-name-is-new-requires : tie.Need-name-is-new-requires
-name-is-new-requires c κs = search needs
+enum-told : tie.Need-enum-told
+enum-told c = search needs
 
-refused-requires-2 : tie.Need-refused-requires-2
-refused-requires-2 c κs = search needs
+mul-self : tie.Need-mul-self
+mul-self c = omega (arith, room c)
 
-returns-2 : tie.Need-returns-2
-returns-2 c =
-    let a = c .before .before .before .before .before .before .args in
-    let pre = c .before .before .before .before .before .before .pre in
-    let k = kind-plain (a .s) (pre .0) (pre .1) in
-    rw (c .refused2 .ensures)
-    (adding-7 (a .area .now) (a .self) (a .s) (kindFor (act (stepOf (a .s)))) (act-plain (a .s) (pre .0) (pre .1))
-    (mayStand-plain (styleOf (a .self .«current_style»)) (kindFor (act (stepOf (a .s)))) k ∙ pre .2)
-    (omega (arith, c .before .before .before .if1 .left))
-    (rw k (sym (c .before .before .name-is-new .ensures) ∙ not-true _ (c .before .if2 .taken))))
+element-write-self : tie.Need-element-write-self
+element-write-self c = omega (arith, room c)
 
-push-requires : tie.Need-push-requires
-push-requires c κs = search needs
+number-requires : tie.Need-number-requires
+number-requires c κs = search needs
+
+mul-self-2 : tie.Need-mul-self-2
+mul-self-2 c = omega (arith, room (c .before))
+
+element-write-self-2 : tie.Need-element-write-self-2
+element-write-self-2 c = omega (arith, room (c .before))
+
+mul-self-3 : tie.Need-mul-self-3
+mul-self-3 c = omega (arith, room (c .before))
+
+element-write-self-3 : tie.Need-element-write-self-3
+element-write-self-3 c = omega (arith, room (c .before))
+
+mul-self-4 : tie.Need-mul-self-4
+mul-self-4 c = omega (arith, room (c .before))
+
+element-write-self-4 : tie.Need-element-write-self-4
+element-write-self-4 c = omega (arith, room (c .before))
+
+mul-self-5 : tie.Need-mul-self-5
+mul-self-5 c = omega (arith, room (c .before))
+
+element-write-self-5 : tie.Need-element-write-self-5
+element-write-self-5 c = omega (arith, room (c .before))
+
+add-self : tie.Need-add-self
+add-self c = omega (arith, room (c .before))
 
 positional-only-requires : tie.Need-positional-only-requires
-positional-only-requires c κs = search needs
+positional-only-requires c κs = room (c .before)
 
 positional-requires : tie.Need-positional-requires
-positional-requires c κs = search needs
+positional-requires c κs = room (c .before .before)
 
-returns-3 : tie.Need-returns-3
-returns-3 c =
-    let a = c .before .before .before .before .before .before .before .before .args in
-    let pre = c .before .before .before .before .before .before .before .before .pre in
-    adding-plain (a .area .now) (a .self) _ (a .s) (kindFor (act (stepOf (a .s)))) (act-plain (a .s) (pre .0) (pre .1))
-    (kind-plain (a .s) (pre .0) (pre .1)) (pre .2)
-    (omega (arith, c .before .before .before .before .before .if1 .left))
-    (sym (c .before .before .before .before .name-is-new .ensures) ∙ not-false _ (c .before .before .before .if2 .left))
-    (c .before .before .push .ensures)
+returns-2 : tie.Need-returns-2
+unfolding stepOf
+returns-2 c =
+    let start = c .before .before .before .before .before .before .before .before .before .before .before in
+    let told = c .before .before .before in
+    let number = c .before .before .number in
+    let b = start .args .t1 in
+    let s = start .args .s in
+    let held = start .good .0 .1 .1 in
+    let codes : length (b .codes) ≡ 64 = length-held (b .codes) (held .0 .1 .0 .1) in
+    let styles : length (b .styles) ≡ 64 = length-held (b .styles) (held .1 .0 .1 .0 .1) in
+    let names : length (b .names) ≡ 64 = length-held (b .names) (held .1 .1 .0 .1 .0 .1) in
+    let kinds : length (b .«default_kinds») ≡ 64 = length-held (b .«default_kinds») (held .1 .1 .1 .0 .1 .0 .1) in
+    let payloads : length (b .«default_payloads») ≡ 64 = length-held (b .«default_payloads») (held .1 .1 .1 .1 .0 .1 .0 .1) in
+    let all : Room (paramsOf b) (b .len) = omega (arith, room told) in
+    adding-plain (start .args .area .now) b _ s (start .pre .0) (start .pre .1) (start .pre .2) (asked told)
+    (longer-stored b _ s (number .result) (number .ensures) all refl)
     (c .before .positional-only .ensures)
     (c .positional .ensures)
     refl refl refl
@@ -66,12 +117,23 @@ pub add-spec : {M : Type 1} → statement M
 add-spec =
     tie.close
     (tie.spec
+    may-add-requires
+    enum-known-asked
     refused-requires
     returns
-    name-is-new-requires
-    refused-requires-2
-    returns-2
-    push-requires
+    enum-told
+    mul-self
+    element-write-self
+    number-requires
+    mul-self-2
+    element-write-self-2
+    mul-self-3
+    element-write-self-3
+    mul-self-4
+    element-write-self-4
+    mul-self-5
+    element-write-self-5
+    add-self
     positional-only-requires
     positional-requires
-    returns-3)
+    returns-2)

@@ -24,9 +24,9 @@ returns c =
 
 returns-2 : tie.Need-returns-2
 returns-2 c =
-    let b = c .before .before .before .args .self in
+    let b = c .before .before .before .before .before .before .before .args .self in
     record {
-      answer = sym (ap (ask 8) (le-leb (b .«positional_only») (b .positional) (c .before .if1 .left)));
+      answer = sym (ap (ask 8) (le-leb (b .«positional_only») (b .positional) (c .before .before .before .before .before .if1 .left)));
       fine = λ e. refl;
       refused = λ n e. never-refused n e;
     }

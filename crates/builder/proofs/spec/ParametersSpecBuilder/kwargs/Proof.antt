@@ -13,21 +13,28 @@ refused-requires c κs = search needs
 
 returns : tie.Need-returns
 returns c =
-    let b = c .before .before .before .args .self in
-    let s = c .before .before .before .args .s in
-    let pre = c .before .before .before .pre in
+    let b = c .before .before .args .self in
+    let s = c .before .before .args .s in
+    let pre = c .before .before .pre in
     λ area. rw (c .refused .ensures) (adding-6 area b s kwargs (act-code s 7 (pre .0)) (pre .1) (c .before .if1 .taken))
 
 push-requires : tie.Need-push-requires
 push-requires c κs = search needs
+
+with-requires : tie.Need-with-requires
+with-requires c κs = search needs
 
 returns-2 : tie.Need-returns-2
 returns-2 c =
     let b = c .before .before .before .args .self in
     let s = c .before .before .before .args .s in
     let pre = c .before .before .before .pre in
+    let p = c .before .push .ensures in
     λ area.
-    adding-kwargs area b _ s (act-code s 7 (pre .0)) (pre .1) (c .before .if1 .left) (c .push .ensures) refl refl refl refl refl
+    rw (c .with .ensures)
+    (adding-kwargs area b _ s (act-code s 7 (pre .0)) (pre .1) (c .before .before .if1 .left)
+    (record { len = p .longer .len; list = p .longer .list })
+    (p .positionalOnly) (p .positional) refl refl refl)
 
 pub kwargs-spec : {M : Type 1} → statement M
-kwargs-spec = tie.close (tie.spec refused-requires returns push-requires returns-2)
+kwargs-spec = tie.close (tie.spec refused-requires returns push-requires with-requires returns-2)

@@ -1,14 +1,15 @@
--- `builder::params::Parameters::push` meets its contract: every column has 64 entries, so each stores its own.
+-- `builder::spec::ParametersSpecBuilder::push` meets its contract: every column has 64 entries, so each stores its own.
 -- Assumes nothing.
 use mathlib.Core.Path.{_≡_, refl}
 use native.Mathlib.Omega.{arith}
 use lib.ListN.{length}
 use borrow.Author.Needs.{needs}
-use Rattle.builder.specs.Params.{styleOf, stepOf, parameterOf}
-use Rattle.builder.proofs.LawsParams.{Room, length-held, stored-list, styleFor-rank}
-use Rattle.builder.proofs.LawsParams.{Room, stored-list, styleFor-rank}
-use Rattle.builder.proofs.params.Parameters.push.Statement.{statement}
-use Rattle.builder.proofs.params.Parameters.push.Tie as tie
+use Rattle.builder.specs.Params.{stepOf}
+use Rattle.builder.specs.Spec.{paramsOf}
+use Rattle.builder.proofs.LawsParams.{Room, length-held}
+use Rattle.builder.proofs.LawsSpec.{longer-stored}
+use Rattle.builder.proofs.spec.ParametersSpecBuilder.push.Statement.{statement}
+use Rattle.builder.proofs.spec.ParametersSpecBuilder.push.Tie as tie
 
 mul-self : tie.Need-mul-self
 mul-self c = search needs
@@ -47,20 +48,24 @@ add-self : tie.Need-add-self
 add-self c = search needs
 
 returns : tie.Need-returns
-unfolding stepOf parameterOf
+unfolding stepOf
 returns c =
-    let p = c .before .args .t1 in
+    let b = c .before .args .t1 in
     let s = c .before .args .s in
     let held = c .before .good .0 .1 .1 in
-    let codes : length (p .codes) ≡ 64 = length-held (p .codes) (held .0 .1 .0 .1) in
-    let styles : length (p .styles) ≡ 64 = length-held (p .styles) (held .1 .0 .1 .0 .1) in
-    let names : length (p .names) ≡ 64 = length-held (p .names) (held .1 .1 .0 .1 .0 .1) in
-    let kinds : length (p .«default_kinds») ≡ 64 = length-held (p .«default_kinds») (held .1 .1 .1 .0 .1 .0 .1) in
-    let payloads : length (p .«default_payloads») ≡ 64 = length-held (p .«default_payloads») (held .1 .1 .1 .1 .0 .1 .0 .1) in
-    let room : Room p (p .len) = omega arith in
+    let codes : length (b .codes) ≡ 64 = length-held (b .codes) (held .0 .1 .0 .1) in
+    let styles : length (b .styles) ≡ 64 = length-held (b .styles) (held .1 .0 .1 .0 .1) in
+    let names : length (b .names) ≡ 64 = length-held (b .names) (held .1 .1 .0 .1 .0 .1) in
+    let kinds : length (b .«default_kinds») ≡ 64 = length-held (b .«default_kinds») (held .1 .1 .1 .0 .1 .0 .1) in
+    let payloads : length (b .«default_payloads») ≡ 64 = length-held (b .«default_payloads») (held .1 .1 .1 .1 .0 .1 .0 .1) in
+    let room : Room (paramsOf b) (b .len) = omega arith in
     record {
-      len = refl;
-      list = λ area. rw (← styleFor-rank (styleOf (c .before .args .style)), ← c .number .ensures) (stored-list area p (s .code) (c .number .result) (s .name) (stepOf s .default) room);
+      longer = longer-stored b _ s (c .number .result) (c .number .ensures) room refl;
+      positionalOnly = refl;
+      positional = refl;
+      style = refl;
+      args = refl;
+      kwargs = refl;
     }
 
 pub push-spec : {M : Type 1} → statement M

@@ -1,0 +1,118 @@
+-- `builder::params::known` meets its contract. The loop's invariant: the answer is the answer for the parameters that are left.
+-- The measure is how many are left.
+-- Assumes nothing.
+use mathlib.Core.Path.{_≡_, sym, ap, _∙_}
+use mathlib.Core.Logic.{⊎-elim}
+use mathlib.Core.Bool.{false}
+use Prim.Native.Nat.{_≤_, _-_}
+use native.Mathlib.Nat.{sub-zero}
+use borrow.Author.Needs.{needs}
+use Rattle.rules.specs.Listing.{any}
+use Rattle.cells.specs.Listed.{listed}
+use Rattle.builder.specs.Params.{namedAt, knownIn}
+use Rattle.cells.proofs.LawsListed.{listed-end, any-hit, any-miss}
+use Rattle.builder.proofs.LawsParams.{named-other, named-same}
+use Rattle.builder.proofs.params.known.Statement.{statement}
+use Rattle.builder.proofs.params.known.Tie as tie
+
+abbrev Inv-loop : tie.InvT-loop
+Inv-loop area codes styles names len bytes i₀ i =
+    (i ≤ len)
+    × (knownIn area codes styles names len bytes ≡ any (namedAt area codes styles names bytes) (listed (λ j. j) i (len - i)))
+
+abbrev μ-loop : tie.MeasureT-loop
+μ-loop area codes styles names len bytes i₀ i = len - i
+
+loop-holds : tie.Need-loop-holds Inv-loop μ-loop
+unfolding knownIn
+loop-holds c = (search needs, rw sub-zero)
+
+mul-bytes-at : tie.Need-mul-bytes-at Inv-loop μ-loop
+mul-bytes-at c = search needs
+
+element-copy-out-bytes-at : tie.Need-element-copy-out-bytes-at Inv-loop μ-loop
+element-copy-out-bytes-at c = search needs
+
+bytes-at-requires : tie.Need-bytes-at-requires Inv-loop μ-loop
+bytes-at-requires c κs = search needs
+
+same-requires : tie.Need-same-requires Inv-loop μ-loop
+same-requires c κs = search needs
+
+mul-nameable : tie.Need-mul-nameable Inv-loop μ-loop
+mul-nameable c = search needs
+
+element-copy-out-nameable : tie.Need-element-copy-out-nameable Inv-loop μ-loop
+element-copy-out-nameable c = search needs
+
+mul-nameable-2 : tie.Need-mul-nameable-2 Inv-loop μ-loop
+mul-nameable-2 c = search needs
+
+element-copy-out-nameable-2 : tie.Need-element-copy-out-nameable-2 Inv-loop μ-loop
+element-copy-out-nameable-2 c = search needs
+
+nameable-requires : tie.Need-nameable-requires Inv-loop μ-loop
+nameable-requires c κs = search needs
+
+returns : tie.Need-returns Inv-loop μ-loop
+returns c =
+    let s = c .before .before .before .before .before in
+    let at = s .before .before .before .before .loop in
+    let a = s .before .before .before .before .before .before .before .args in
+    sym
+    (at .inv .1
+    ∙ any-hit (namedAt (a .area .now) (a .codes .now) (a .styles .now) (a .names .now) (a .bytes .now)) (λ j. j) (at .i) (a .len) (s .before .before .before .loop-test .taken)
+    (named-same (a .area .now) (a .codes .now) (a .styles .now) (a .names .now) (a .bytes .now) (at .i) (s .before .bytes-at .ensures) (s .same .ensures) (c .before .before .before .before .if1 .taken) (c .before .nameable .ensures)
+    ∙ c .if2 .taken))
+
+add-i : tie.Need-add-i Inv-loop μ-loop
+add-i c = search needs
+
+loop-less : tie.Need-loop-less Inv-loop μ-loop
+loop-less c = search needs
+
+loop-again : tie.Need-loop-again Inv-loop μ-loop
+loop-again c =
+    let at = c .before .before .before .before .before .loop in
+    let a = c .before .before .before .before .before .before .before .before .args in
+    let name = c .before .before .bytes-at .ensures in
+    let same = c .before .same .ensures in
+    let miss : namedAt (a .area .now) (a .codes .now) (a .styles .now) (a .names .now) (a .bytes .now) (at .i) ≡ false =
+    ⊎-elim
+    (λ w. named-same (a .area .now) (a .codes .now) (a .styles .now) (a .names .now) (a .bytes .now) (at .i) name same (w .0 .taken) (w .3 .ensures) ∙ w .4 .left)
+    (λ w. named-other (a .area .now) (a .codes .now) (a .styles .now) (a .names .now) (a .bytes .now) (at .i) name same (w .left))
+    (c .if1 .came) in (
+      search needs,
+      at .inv .1
+          ∙ any-miss (namedAt (a .area .now) (a .codes .now) (a .styles .now) (a .names .now) (a .bytes .now)) (λ j. j) (at .i) (a .len) (c .before .before .before .before .loop-test .taken) miss,
+    )
+
+returns-2 : tie.Need-returns-2 Inv-loop μ-loop
+returns-2 c =
+    let a = c .before .before .before .before .args in
+    sym
+    (c .before .loop .inv .1
+    ∙ ap (any (namedAt (a .area .now) (a .codes .now) (a .styles .now) (a .names .now) (a .bytes .now)))
+    (listed-end (λ j. j) (c .before .loop .i) (a .len) (c .loop-test .left)))
+
+pub known-spec : {M : Type 1} → statement M
+known-spec =
+    tie.close
+    (tie.spec
+    Inv-loop
+    μ-loop
+    loop-holds
+    mul-bytes-at
+    element-copy-out-bytes-at
+    bytes-at-requires
+    same-requires
+    mul-nameable
+    element-copy-out-nameable
+    mul-nameable-2
+    element-copy-out-nameable-2
+    nameable-requires
+    returns
+    add-i
+    loop-less
+    loop-again
+    returns-2)
