@@ -35,8 +35,8 @@ pub struct Step {
 // The parameters, a column for each thing that is kept of one: the code of the step that added it (1, 2, 3, 6 or 7), the number of
 // its style (0, 1 or 2), its name's payload, and the two cells of its default.
 pub struct Parameters {
-    pub codes: [u64; CAPACITY],
-    pub styles: [u64; CAPACITY],
+    pub codes: [u8; CAPACITY],
+    pub styles: [u8; CAPACITY],
     pub names: [u64; CAPACITY],
     pub default_kinds: [u64; CAPACITY],
     pub default_payloads: [u64; CAPACITY],
@@ -44,7 +44,7 @@ pub struct Parameters {
 }
 
 impl CurrentParameterStyle {
-    pub fn number(self) -> u64
+    pub fn number(self) -> u8
         ensures { λ r. ⌜ r ≡ rank (styleOf self) ⌝ }
     {
         match self {
@@ -94,7 +94,14 @@ impl CurrentParameterStyle {
 }
 
 // Can a parameter with this code and this number of a style be named in a call?
-pub fn nameable(code: u64, style: u64) -> bool
+pub fn nameable(code: u8, style: u8) -> bool
+    ensures { λ r. ⌜ r ≡ mayBeNamed code style ⌝ }
+{
+    may_be_named(code as u64, style as u64)
+}
+
+// The same of numbers as cells hold them.
+pub fn may_be_named(code: u64, style: u64) -> bool
     ensures { λ r. ⌜ r ≡ mayBeNamed code style ⌝ }
 {
     match code {
@@ -140,8 +147,8 @@ impl Parameters {
 // Is the name of a parameter that is added under this style new among the nameable ones, if it has to be? The list is lent by its columns.
 pub(crate) fn name_is_new<'a>(
     area: &'a [u8],
-    codes: &'a [u64; CAPACITY],
-    styles: &'a [u64; CAPACITY],
+    codes: &'a [u8; CAPACITY],
+    styles: &'a [u8; CAPACITY],
     names: &'a [u64; CAPACITY],
     len: usize,
     style: CurrentParameterStyle,
@@ -160,8 +167,8 @@ pub(crate) fn name_is_new<'a>(
 // Is there a nameable parameter with these bytes? Most are told apart by their lengths, so bytes are compared first.
 fn known<'a>(
     area: &'a [u8],
-    codes: &'a [u64; CAPACITY],
-    styles: &'a [u64; CAPACITY],
+    codes: &'a [u8; CAPACITY],
+    styles: &'a [u8; CAPACITY],
     names: &'a [u64; CAPACITY],
     len: usize,
     bytes: &[u8],

@@ -25,8 +25,8 @@ pub enum Index {
 // The state of a list that is being built. The parameters are the columns of `Parameters`, one by one: a step stores into them where they
 // stand, and nothing is copied on the way but the state itself.
 pub struct ParametersSpecBuilder {
-    pub codes: [u64; CAPACITY],
-    pub styles: [u64; CAPACITY],
+    pub codes: [u8; CAPACITY],
+    pub styles: [u8; CAPACITY],
     pub names: [u64; CAPACITY],
     pub default_kinds: [u64; CAPACITY],
     pub default_payloads: [u64; CAPACITY],
@@ -231,7 +231,7 @@ impl ParametersSpecBuilder {
         if let Answer::Refused(question) = asked {
             return self.refused(question);
         }
-        self.codes[i] = s.code;
+        self.codes[i] = s.code as u8;
         self.styles[i] = style.number();
         self.names[i] = s.name;
         self.default_kinds[i] = s.default_kind;
@@ -247,12 +247,12 @@ impl ParametersSpecBuilder {
 
     // One more parameter at the end, under the style so far; counts, style and indices are as they were.
     fn push(mut self, s: Step) -> Self
-        requires { ⌜ self .len < 64 ⌝ }
+        requires { ⌜ (self .len < 64) × (s .code < 256) ⌝ }
         ensures { λ r. ⌜ Pushed self s r ⌝ }
     {
         let style = self.current_style;
         let at = self.len;
-        self.codes[at] = s.code;
+        self.codes[at] = s.code as u8;
         self.styles[at] = style.number();
         self.names[at] = s.name;
         self.default_kinds[at] = s.default_kind;
@@ -328,8 +328,8 @@ impl ParametersSpecBuilder {
 // 6 and 7 of a parameter of codes 1 to 3: is there room, and is its name new where it has to be? The columns are lent.
 fn may_add<'a>(
     area: &'a [u8],
-    codes: &'a [u64; CAPACITY],
-    styles: &'a [u64; CAPACITY],
+    codes: &'a [u8; CAPACITY],
+    styles: &'a [u8; CAPACITY],
     names: &'a [u64; CAPACITY],
     len: usize,
     style: CurrentParameterStyle,

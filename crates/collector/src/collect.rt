@@ -145,8 +145,8 @@ fn collect_inline(cells: &[u64], h: Head, board: &mut [u64]) -> Collected
 // The general path: 15 to 24, and then the board. The list is lent by its columns.
 pub fn collect_slow<'a>(
     spec: &'a [u8],
-    codes: &'a [u64; CAPACITY],
-    styles: &'a [u64; CAPACITY],
+    codes: &'a [u8; CAPACITY],
+    styles: &'a [u8; CAPACITY],
     names: &'a [u64; CAPACITY],
     kinds: &'a [u64; CAPACITY],
     payloads: &'a [u64; CAPACITY],

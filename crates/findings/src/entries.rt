@@ -34,8 +34,8 @@ pub enum Entries {
 // All the entries, after the written names. `near` is where the first is looked for first.
 pub fn resolve_entries<'a>(
     spec: &'a [u8],
-    codes: &'a [u64; CAPACITY],
-    styles: &'a [u64; CAPACITY],
+    codes: &'a [u8; CAPACITY],
+    styles: &'a [u8; CAPACITY],
     names: &'a [u64; CAPACITY],
     len: usize,
     cells: &[u64],
@@ -100,8 +100,8 @@ pub enum Entered {
 // 18 and 19 of the entry at a cell. The search starts at `near`.
 pub fn entry_at<'a>(
     spec: &'a [u8],
-    codes: &'a [u64; CAPACITY],
-    styles: &'a [u64; CAPACITY],
+    codes: &'a [u8; CAPACITY],
+    styles: &'a [u8; CAPACITY],
     names: &'a [u64; CAPACITY],
     len: usize,
     cells: &[u64],
@@ -140,8 +140,8 @@ pub fn entry_at<'a>(
 // 19 of an entry whose key is the text of this payload.
 fn word_at<'a>(
     spec: &'a [u8],
-    codes: &'a [u64; CAPACITY],
-    styles: &'a [u64; CAPACITY],
+    codes: &'a [u8; CAPACITY],
+    styles: &'a [u8; CAPACITY],
     names: &'a [u64; CAPACITY],
     len: usize,
     cells: &[u64],

@@ -24,7 +24,7 @@ pub fn first_named(sources: &[usize; 64], next: usize) -> Index
 
 // The first of the slots from `next` on, below `len`, whose parameter is required and that no name fills.
 pub fn first_missing<'a>(
-    codes: &'a [u64; 64],
+    codes: &'a [u8; 64],
     sources: &'a [usize; 64],
     next: usize,
     len: usize,

@@ -16,8 +16,8 @@ pub const NAMED: usize = 128;
 // The parameter that the pair at a cell names, by the list's columns, lent: none of them is copied for a name. The search starts at `near`.
 pub fn found_at<'a>(
     spec: &'a [u8],
-    codes: &'a [u64; CAPACITY],
-    styles: &'a [u64; CAPACITY],
+    codes: &'a [u8; CAPACITY],
+    styles: &'a [u8; CAPACITY],
     names: &'a [u64; CAPACITY],
     len: usize,
     cells: &[u64],
@@ -78,8 +78,8 @@ pub fn behind(found: Finding, near: usize) -> usize
 // The written names, of which none stands twice. `near` is where the first is looked for first.
 pub fn resolve_names<'a>(
     spec: &'a [u8],
-    codes: &'a [u64; CAPACITY],
-    styles: &'a [u64; CAPACITY],
+    codes: &'a [u8; CAPACITY],
+    styles: &'a [u8; CAPACITY],
     names: &'a [u64; CAPACITY],
     len: usize,
     cells: &[u64],

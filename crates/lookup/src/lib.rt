@@ -30,8 +30,8 @@ pub fn get_str(list: ParametersSpec, area: &[u8], name: &[u8]) -> Finding
 // The same over the columns, lent, so that a caller who asks for many names copies no list.
 pub fn find<'a, 'b>(
     area: &'a [u8],
-    codes: &'a [u64; CAPACITY],
-    styles: &'a [u64; CAPACITY],
+    codes: &'a [u8; CAPACITY],
+    styles: &'a [u8; CAPACITY],
     names: &'a [u64; CAPACITY],
     len: usize,
     name: &'b [u8],
@@ -45,8 +45,8 @@ pub fn find<'a, 'b>(
 // in the list's order, and then the one behind the last that was found is the one.
 pub fn find_near<'a, 'b>(
     area: &'a [u8],
-    codes: &'a [u64; CAPACITY],
-    styles: &'a [u64; CAPACITY],
+    codes: &'a [u8; CAPACITY],
+    styles: &'a [u8; CAPACITY],
     names: &'a [u64; CAPACITY],
     len: usize,
     near: usize,
@@ -70,8 +70,8 @@ pub fn find_near<'a, 'b>(
 // differs; one whose name does not lie inside the area fits nothing.
 fn search<'a, 'b>(
     area: &'a [u8],
-    codes: &'a [u64; CAPACITY],
-    styles: &'a [u64; CAPACITY],
+    codes: &'a [u8; CAPACITY],
+    styles: &'a [u8; CAPACITY],
     names: &'a [u64; CAPACITY],
     from: usize,
     to: usize,

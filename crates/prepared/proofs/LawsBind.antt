@@ -3,7 +3,8 @@
 use mathlib.Core.Path.{_≡_, refl, sym, ap, _∙_}
 use mathlib.Core.Bool.{Bool, true, false, not, cond, _&&_, _||_}
 use mathlib.Core.List.{List, [], _∷_, map}
-use Prim.Native.Nat.{ℕ, zero, suc, _+_, _*_, _≤_}
+use Prim.Native.Nat.{ℕ, zero, suc, _+_, _*_, _≤_, _<_}
+use native.Mathlib.Nat.{zero-add}
 use native.Mathlib.Decide.{decLe}
 use native.Mathlib.Omega.{arith}
 use lib.Dec.{leb}
@@ -17,6 +18,7 @@ use Rattle.rules.specs.ParameterQuestions.{hasName, stepName}
 use Rattle.rules.specs.Collection.{Outcome}
 use Rattle.rules.specs.Passed.{positionalFirst, namesApart, nameInside}
 use Rattle.rules.proofs.LawsListing.{and-left, and-right, and-both}
+use Rattle.cells.proofs.LawsListed.{length-listed, getD-listed}
 use Rattle.builder.specs.Params.{styleFor, kindFor, parameterOf, parametersIn}
 use Rattle.builder.specs.Build.{IsList}
 use Rattle.builder.specs.declared.spec.ParametersSpec.{ParametersSpec}
@@ -25,12 +27,12 @@ use Rattle.findings.specs.Resolve.{Prepared}
 use Rattle.answers.specs.declared.answer.Collected.{Collected}
 use Rattle.collector.specs.Collect.{Ends, boundTo}
 use Rattle.prepared.specs.Prepared.{Row, rowsIn, listIn, parameterOfRow, rowRight, rowsRight, isPrepared, preparedLength, frontWidth, rowWidth, boundPrepared}
-use Rattle.prepared.specs.Rows.{stands, Whole}
+use Rattle.prepared.specs.Rows.{rowAt, stands, Whole, Narrow}
 use Rattle.prepared.specs.Load.{byPosition}
 use Rattle.prepared.specs.Bind.{EndsBound}
 use Rattle.prepared.specs.declared.PreparedBound.the-variants.{NotPrepared, Bound}
-use Rattle.prepared.proofs.LawsRows.{never, stands-0}
-use Rattle.prepared.proofs.LawsCheck.{right-name, right-stands}
+use Rattle.prepared.proofs.LawsRows.{never, stands-0, stands-4, cellsAt, rowAt-cells, rows-listed}
+use Rattle.prepared.proofs.LawsCheck.{right-name, right-stands, right-style}
 use Rattle.prepared.proofs.LawsLoad.{by-0, by-3, by-4, row-position}
 
 -- ---- the positional rows come first
@@ -133,6 +135,20 @@ rows-inside area least (r ∷ rs) t =
     (row-inside area r (right-name area r (first-right area least r rs t)))
     (rows-inside area (next area least r rs t) rs (rest-right area least r rs t))
 
+-- ---- each row is right, and so its code and its style are small
+
+rows-each : (area : List ℕ) (least : ℕ) (rs : List Row) → rowsRight area least rs ≡ true → (j : ℕ) (d : Row) → j < length rs → rowRight area (getD rs j d) ≡ true
+rows-each area least [] t j d h = absurd (omega arith)
+rows-each area least (r ∷ rs) t zero d h = first-right area least r rs t
+rows-each area least (r ∷ rs) t (suc j) d h = rows-each area (next area least r rs t) rs (rest-right area least r rs t) j d (omega arith)
+
+stands-small : (code style : ℕ) (v : Value) → stands code style v ≡ true → code < 8
+stands-small code style v t = split (decLe 8 code)
+  where
+    split : Dec (8 ≤ code) → code < 8
+    split (yes l) = absurd (never (stands-4 style v code (omega arith) (λ e. omega arith) (λ e. omega arith) ∙ t))
+    split (no l) = omega arith
+
 -- ---- cells that are a prepared list
 
 bound-ends : (o : Outcome) (before after : List ℕ) (r : Collected) → Ends o before after r → EndsBound o before after (Bound r)
@@ -172,6 +188,22 @@ module _ (area cells : List ℕ) (t : isPrepared area cells ≡ true) where
       record {
         few = leb-true (getD cells 0 0) 64 (and-left few long front);
         long = leb-true (2 + 6 * getD cells 0 0) (length cells) (and-right few long front);
+      }
+
+  row-right : (j : ℕ) → j < getD cells 0 0 → rowRight area (cellsAt cells j) ≡ true
+  row-right j h =
+      ap (rowRight area)
+      (sym (rowAt-cells cells j)
+      ∙ ap (rowAt cells) (sym (zero-add j))
+      ∙ sym (getD-listed (rowAt cells) 0 (getD cells 0 0) j (rowAt cells 0) h)
+      ∙ ap (λ rs. getD rs j (rowAt cells 0)) (sym (rows-listed cells)))
+      ∙ rows-each area 0 (rowsIn cells) rows-hold j (rowAt cells 0) (rw (rows-listed cells, length-listed (rowAt cells) 0 (getD cells 0 0)) h)
+
+  pub prepared-narrow : Narrow cells
+  prepared-narrow =
+      record {
+        code = λ j h. omega (arith, stands-small (getD cells (2 + 6 * j) 0) (getD cells (2 + 6 * j + 1) 0) (cellsAt cells j .step .default) (right-stands area (cellsAt cells j) (row-right j h)));
+        style = λ j h. omega (arith, right-style area (cellsAt cells j) (row-right j h));
       }
 
   module _ (l : ParametersSpec) (is : IsList area l (listIn area cells)) where

@@ -35,6 +35,11 @@ pub record Whole (cells : List ℕ) : Type 0 where
   pub few : getD cells 0 0 ≤ 64
   pub long : 2 + 6 * getD cells 0 0 ≤ length cells
 
+-- the codes and styles of these rows are small
+pub record Narrow (cells : List ℕ) : Type 0 where
+  pub code : (j : ℕ) → j < getD cells 0 0 → getD cells (2 + 6 * j) 0 < 256
+  pub style : (j : ℕ) → j < getD cells 0 0 → getD cells (2 + 6 * j + 1) 0 < 256
+
 -- each row's key is that of its name
 pub record Keyed (area cells : List ℕ) (n : ℕ) : Type 0 where
   pub long : 2 + 6 * n ≤ length cells

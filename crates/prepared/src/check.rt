@@ -10,7 +10,7 @@ use crate::row::style_after;
 use builder::params::CAPACITY;
 use builder::params::Step;
 use builder::params::bytes_at;
-use builder::params::nameable;
+use builder::params::may_be_named;
 use cells::record::cell;
 use cells::text::same;
 ghost use mathlib.Core.Path.{_≡_};
@@ -92,7 +92,7 @@ fn names_apart(cells: &[u64], area: &[u8], n: usize) -> bool
     let mut i = 0;
     while i < n {
         let at = FRONT + ROW * i;
-        if nameable(cells[at], cells[at + STYLE]) {
+        if may_be_named(cells[at], cells[at + STYLE]) {
             let slot = (cells[at + KEY] as usize) % SLOTS;
             if used[slot] == 1 {
                 if known_before(cells, area, i) {
@@ -132,7 +132,7 @@ fn is_named(cells: &[u64], area: &[u8], j: usize, bytes: &[u8]) -> bool
     ensures { λ r. ⌜ r ≡ names (now (bytes .entry)) (paramAt (now (area .entry)) (now (cells .entry)) j) ⌝ }
 {
     let at = FRONT + ROW * j;
-    if !nameable(cells[at], cells[at + STYLE]) {
+    if !may_be_named(cells[at], cells[at + STYLE]) {
         return false;
     }
     same(bytes, bytes_at(area, cells[at + NAME]))

@@ -1,5 +1,5 @@
-// A prepared list as binding reads it: counts and indices of the rows, and the rows in the builder's columns, each copied once. What holds of
-// them holds of any rows; that they are right is asked before (`check`).
+// A prepared list as binding reads it: counts and indices of the rows, and the rows in the builder's columns, each copied once. Rows that are
+// right are asked for before (`check`); of these two only loading needs that, for codes and styles that a byte holds.
 use crate::row::DEFAULT_KIND;
 use crate::row::DEFAULT_PAYLOAD;
 use crate::row::FRONT;
@@ -17,11 +17,11 @@ ghost use Prim.Native.Nat.{ℕ, _+_, _*_, _≤_};
 ghost use lib.Dec.{eqb};
 ghost use lib.ListN.{length};
 ghost use Rattle.cells.specs.Listed.{listed};
-ghost use Rattle.prepared.specs.Rows.{paramAt, Whole};
+ghost use Rattle.prepared.specs.Rows.{paramAt, Whole, Narrow};
 ghost use Rattle.prepared.specs.Load.{byPosition, onlyByPosition, restOfNames, orAt, IndicesOf, IsLoaded};
 
 pub(crate) fn load(cells: &[u64]) -> Parameters
-    requires { ⌜ Whole (now cells) ⌝ }
+    requires { ⌜ Whole (now cells) × Narrow (now cells) ⌝ }
     ensures { λ r. ⌜ IsLoaded (now (cells .entry)) r ⌝ }
 {
     let n = cells[0] as usize;
@@ -36,8 +36,8 @@ pub(crate) fn load(cells: &[u64]) -> Parameters
     let mut i = 0;
     while i < n {
         let at = FRONT + ROW * i;
-        params.codes[i] = cells[at];
-        params.styles[i] = cells[at + STYLE];
+        params.codes[i] = cells[at] as u8;
+        params.styles[i] = cells[at + STYLE] as u8;
         params.names[i] = cells[at + NAME];
         params.default_kinds[i] = cells[at + DEFAULT_KIND];
         params.default_payloads[i] = cells[at + DEFAULT_PAYLOAD];

@@ -49,7 +49,7 @@ fn put_row(row: Row, at: usize, out: &mut [u64])
 }
 
 // The row of a parameter, from what the columns keep of it.
-fn row_for(area: &[u8], code: u64, style: u64, name: u64, default: Pair) -> Row
+fn row_for(area: &[u8], code: u8, style: u8, name: u64, default: Pair) -> Row
     ensures { λ r. ⌜ rowIn r ≡ rowOf (parameterOf (now (area .entry)) code style name (pairOf default)) ⌝ }
 {
     let held = default_for(code, default);
@@ -64,28 +64,28 @@ fn row_for(area: &[u8], code: u64, style: u64, name: u64, default: Pair) -> Row
 }
 
 // By the builder's reading, a code that adds no parameter is that of `**kwargs`.
-fn code_for(code: u64) -> u64
+fn code_for(code: u8) -> u64
     ensures { λ r. ⌜ r ≡ codeAs code ⌝ }
 {
     match code {
-        1..=3 => code,
+        1..=3 => code as u64,
         6 => 6,
         _ => 7,
     }
 }
 
 // And a number above the last style's is the last style's.
-fn style_for(style: u64) -> u64
+fn style_for(style: u8) -> u64
     ensures { λ r. ⌜ r ≡ rank (styleFor style) ⌝ }
 {
     if style < 3 {
-        return style;
+        return style as u64;
     }
     3
 }
 
 // Only code 3 has a default.
-fn default_for(code: u64, default: Pair) -> Pair
+fn default_for(code: u8, default: Pair) -> Pair
     ensures { λ r. ⌜ pairOf r ≡ defaultAs code (pairOf default) ⌝ }
 {
     if code == 3 {

@@ -71,7 +71,7 @@ fn write_parameter(
 }
 
 // Is this the code of a plain parameter, and this the number of the style?
-fn is_under(code: u64, number: u64, style: CurrentParameterStyle) -> bool
+fn is_under(code: u8, number: u8, style: CurrentParameterStyle) -> bool
     ensures { λ r. ⌜ r ≡ isUnder (styleOf style) code number ⌝ }
 {
     match code {

@@ -15,7 +15,7 @@ pub struct Line {
 }
 
 // One more item: a name, and ` = ...` behind it where the code is that of a parameter that may be left out.
-pub(crate) fn write_item(name: &[u8], code: u64, line: Line, out: &mut [u8]) -> Line
+pub(crate) fn write_item(name: &[u8], code: u8, line: Line, out: &mut [u8]) -> Line
     requires { ⌜ Room ((now name ++ markFor code) ∷ []) line (now out) ⌝ }
     ensures { λ r. ⌜ Added ((now (name .entry) ++ markFor code) ∷ []) line (now (out .entry)) (now (out .exit)) r ⌝ }
 {
@@ -50,7 +50,7 @@ fn write_between(begun: bool, at: usize, out: &mut [u8]) -> usize
     write_bytes(b", ", at, out)
 }
 
-fn write_mark(code: u64, at: usize, out: &mut [u8]) -> usize
+fn write_mark(code: u8, at: usize, out: &mut [u8]) -> usize
     requires { ⌜ at + length (markFor code) ≤ length (now out) ⌝ }
     ensures { λ r. ⌜ Put (markFor code) at (now (out .entry)) (now (out .exit)) r ⌝ }
 {

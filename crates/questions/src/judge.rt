@@ -25,7 +25,7 @@ pub enum Judged {
 }
 
 // The refusal for a required parameter that is given nothing, by how it could have been given.
-pub fn missing(style: u64, name: u64) -> Collected
+pub fn missing(style: u8, name: u64) -> Collected
     ensures { λ r. ⌜ r ≡ missingAs style name ⌝ }
 {
     match style {
@@ -50,8 +50,8 @@ fn lost(count: usize, room: usize, taker: Index) -> bool
 
 // 20 to 24, of names that are resolved, against a list that is lent by its columns.
 pub fn ask_placed<'a>(
-    codes: &'a [u64; CAPACITY],
-    styles: &'a [u64; CAPACITY],
+    codes: &'a [u8; CAPACITY],
+    styles: &'a [u8; CAPACITY],
     names: &'a [u64; CAPACITY],
     len: usize,
     indices: DefParamIndices,

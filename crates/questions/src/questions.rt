@@ -23,8 +23,8 @@ ghost use Rattle.questions.specs.Questions.{askAfterNames, ListLent, Jud
 // All of them, with nothing resolved yet; the first `next` slots are filled by position, so names are looked for behind them first.
 pub fn judge<'a>(
     spec: &'a [u8],
-    codes: &'a [u64; CAPACITY],
-    styles: &'a [u64; CAPACITY],
+    codes: &'a [u8; CAPACITY],
+    styles: &'a [u8; CAPACITY],
     names: &'a [u64; CAPACITY],
     len: usize,
     indices: DefParamIndices,
@@ -80,8 +80,8 @@ pub fn judge<'a>(
 // 17 to 24, of a call whose written names are resolved. Entries are looked for first behind as many parameters as there are written names.
 fn after_names<'a>(
     spec: &'a [u8],
-    codes: &'a [u64; CAPACITY],
-    styles: &'a [u64; CAPACITY],
+    codes: &'a [u8; CAPACITY],
+    styles: &'a [u8; CAPACITY],
     names: &'a [u64; CAPACITY],
     len: usize,
     indices: DefParamIndices,

@@ -78,7 +78,7 @@ pub(crate) fn name_in<'a>(area: &'a [u8], payload: u64) -> &'a [u8]
 }
 
 // A parameter's name, by the code of its step: `*args` and `**kwargs` have none of their own.
-pub(crate) fn name_cell(spec: &[u8], code: u64, name: u64, at: usize, out: &mut [u8]) -> usize
+pub(crate) fn name_cell(spec: &[u8], code: u8, name: u64, at: usize, out: &mut [u8]) -> usize
     requires { ⌜ at + 65 ≤ length (now out) ⌝ }
     ensures { λ r. ⌜ Put (nameFor code (shownName (now (spec .entry)) name) ++ (44 ∷ [])) at (now (out .entry)) (now (out .exit)) r ⌝ }
 {
@@ -95,7 +95,7 @@ pub(crate) fn name_cell(spec: &[u8], code: u64, name: u64, at: usize, out: &mut 
 pub(crate) fn held_cell<'a>(
     spec: &'a [u8],
     call: &'a [u8],
-    code: u64,
+    code: u8,
     pair: Pair,
     at: usize,
     out: &mut [u8],
@@ -110,7 +110,7 @@ pub(crate) fn held_cell<'a>(
 }
 
 // Is this the code of a parameter with a name of its own?
-fn is_plain(code: u64) -> bool
+fn is_plain(code: u8) -> bool
     ensures { λ r. ⌜ r ≡ plainCode code ⌝ }
 {
     if code < 1 {

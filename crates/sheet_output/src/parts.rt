@@ -57,7 +57,7 @@ fn write_slot<'a>(
     spec: &'a [u8],
     call: &'a [u8],
     i: usize,
-    code: u64,
+    code: u8,
     name: u64,
     pair: Pair,
     at: usize,

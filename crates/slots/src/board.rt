@@ -23,7 +23,7 @@ ghost use Rattle.slots.specs.Board.{RestHeld, BoardReady, BoardWritten};
 // All of it, and how much there is of each part. The list is lent by its columns, with how many parameters it has and how many of them are
 // positional.
 pub fn write_board<'a>(
-    codes: &'a [u64; 64],
+    codes: &'a [u8; 64],
     kinds: &'a [u64; 64],
     payloads: &'a [u64; 64],
     len: usize,

@@ -26,7 +26,7 @@ pub enum Slot {
 
 // Slot k: a value of P below `next`, or the value that a name gives it, or what its code says.
 pub fn slot_at<'a>(
-    codes: &'a [u64; 64],
+    codes: &'a [u8; 64],
     kinds: &'a [u64; 64],
     payloads: &'a [u64; 64],
     sources: &'a [usize; 64],
@@ -50,7 +50,7 @@ pub fn slot_at<'a>(
 
 impl Slot {
     // The slot of a parameter that is given nothing, by its code.
-    pub fn unfilled(code: u64, default: Pair) -> Slot
+    pub fn unfilled(code: u8, default: Pair) -> Slot
         ensures { λ r. ⌜ slotIn r ≡ unfilledAs code (pairOf default) ⌝ }
     {
         match code {
@@ -110,7 +110,7 @@ pub struct Filled {
 
 // The cells of the first `len` slots, from cell 0 of the board on.
 pub fn write_slots<'a>(
-    codes: &'a [u64; 64],
+    codes: &'a [u8; 64],
     kinds: &'a [u64; 64],
     payloads: &'a [u64; 64],
     sources: &'a [usize; 64],

@@ -65,14 +65,8 @@ candidates-again c =
     let i = c .before .before .before .candidates .i in
     (search needs, missed (c .before .before) (fits-size (a .area .now) (a .name .now) (getD (a .codes .now) i 0) (getD (a .styles .now) i 0) (getD (a .names .now) i 0) (λ e. absurd (omega (arith, c .if1 .taken)))))
 
-mul-nameable : tie.Need-mul-nameable Inv-loop μ-loop Inv-candidates μ-candidates
-mul-nameable c = search needs
-
 element-copy-out-nameable : tie.Need-element-copy-out-nameable Inv-loop μ-loop Inv-candidates μ-candidates
 element-copy-out-nameable c = omega (arith, c .before .before .before .before .before .before .pre .1)
-
-mul-nameable-2 : tie.Need-mul-nameable-2 Inv-loop μ-loop Inv-candidates μ-candidates
-mul-nameable-2 c = search needs
 
 element-copy-out-nameable-2 : tie.Need-element-copy-out-nameable-2 Inv-loop μ-loop Inv-candidates μ-candidates
 element-copy-out-nameable-2 c = omega (arith, c .before .before .before .before .before .before .before .pre .1)
@@ -184,9 +178,7 @@ search-spec =
     element-copy-out-size
     candidates-less
     candidates-again
-    mul-nameable
     element-copy-out-nameable
-    mul-nameable-2
     element-copy-out-nameable-2
     nameable-requires
     candidates-less-2

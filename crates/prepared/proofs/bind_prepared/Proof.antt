@@ -21,7 +21,7 @@ use Rattle.prepared.specs.Prepared.{listIn, isPrepared}
 use Rattle.prepared.specs.Rows.{paramAt, Whole}
 use Rattle.prepared.specs.Load.{IndicesOf, IsLoaded}
 use Rattle.prepared.proofs.LawsLoad.{columnsOf, columns-loaded}
-use Rattle.prepared.proofs.LawsBind.{prepared-whole, prepared-ready, prepared-ends, unprepared-ends}
+use Rattle.prepared.proofs.LawsBind.{prepared-whole, prepared-narrow, prepared-ready, prepared-ends, unprepared-ends}
 use Rattle.prepared.proofs.bind_prepared.Statement.{statement}
 use Rattle.prepared.proofs.bind_prepared.Tie as tie
 
@@ -86,7 +86,10 @@ enum-known-begun-2 : tie.Need-enum-known-begun-2
 enum-known-begun-2 c = search needs
 
 load-requires : tie.Need-load-requires
-load-requires c κs = whole (c .before .before .before .before .before .before .before .before .before)
+load-requires c κs =
+    let told = c .before .before .before .before .before .before .before .before .before in
+    let a = startOf (told .before) .args in
+    (whole told, prepared-narrow (a .spec .now) (a .prepared .now) (is-one told))
 
 collect-slow-requires : tie.Need-collect-slow-requires
 collect-slow-requires c κs =

@@ -39,14 +39,8 @@ bytes-at-requires c κs = search needs
 same-requires : tie.Need-same-requires Inv-loop μ-loop
 same-requires c κs = search needs
 
-mul-nameable : tie.Need-mul-nameable Inv-loop μ-loop
-mul-nameable c = search needs
-
 element-copy-out-nameable : tie.Need-element-copy-out-nameable Inv-loop μ-loop
 element-copy-out-nameable c = search needs
-
-mul-nameable-2 : tie.Need-mul-nameable-2 Inv-loop μ-loop
-mul-nameable-2 c = search needs
 
 element-copy-out-nameable-2 : tie.Need-element-copy-out-nameable-2 Inv-loop μ-loop
 element-copy-out-nameable-2 c = search needs
@@ -106,9 +100,7 @@ known-spec =
     element-copy-out-bytes-at
     bytes-at-requires
     same-requires
-    mul-nameable
     element-copy-out-nameable
-    mul-nameable-2
     element-copy-out-nameable-2
     nameable-requires
     returns

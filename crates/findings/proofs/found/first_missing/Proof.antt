@@ -21,9 +21,6 @@ abbrev μ-loop : tie.MeasureT-loop
 loop-holds : tie.Need-loop-holds Inv-loop μ-loop
 loop-holds c = search needs
 
-mul-if1 : tie.Need-mul-if1 Inv-loop μ-loop
-mul-if1 c = search needs
-
 element-copy-out-if1 : tie.Need-element-copy-out-if1 Inv-loop μ-loop
 element-copy-out-if1 c = search needs
 
@@ -71,7 +68,6 @@ first-missing-spec =
     Inv-loop
     μ-loop
     loop-holds
-    mul-if1
     element-copy-out-if1
     mul-if2
     element-copy-out-if2

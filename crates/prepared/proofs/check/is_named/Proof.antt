@@ -12,27 +12,27 @@ mul-at c = search needs
 add-at : tie.Need-add-at
 add-at c = search needs
 
-mul-nameable : tie.Need-mul-nameable
-mul-nameable c = search needs
+mul-may-be-named : tie.Need-mul-may-be-named
+mul-may-be-named c = search needs
 
-shared-slice-read-nameable : tie.Need-shared-slice-read-nameable
-shared-slice-read-nameable c = search needs
+shared-slice-read-may-be-named : tie.Need-shared-slice-read-may-be-named
+shared-slice-read-may-be-named c = search needs
 
-add-nameable : tie.Need-add-nameable
-add-nameable c = search needs
+add-may-be-named : tie.Need-add-may-be-named
+add-may-be-named c = search needs
 
-mul-nameable-2 : tie.Need-mul-nameable-2
-mul-nameable-2 c = search needs
+mul-may-be-named-2 : tie.Need-mul-may-be-named-2
+mul-may-be-named-2 c = search needs
 
-shared-slice-read-nameable-2 : tie.Need-shared-slice-read-nameable-2
-shared-slice-read-nameable-2 c = search needs
+shared-slice-read-may-be-named-2 : tie.Need-shared-slice-read-may-be-named-2
+shared-slice-read-may-be-named-2 c = search needs
 
-nameable-requires : tie.Need-nameable-requires
-nameable-requires c κs = search needs
+may-be-named-requires : tie.Need-may-be-named-requires
+may-be-named-requires c κs = search needs
 
 returns : tie.Need-returns
 unfolding paramAt
-returns c = rw rowAt-cells (names-style _ _ _ (c .before .nameable .ensures) (c .if1 .taken))
+returns c = rw rowAt-cells (names-style _ _ _ (c .before .may-be-named .ensures) (c .if1 .taken))
 
 add-bytes-at : tie.Need-add-bytes-at
 add-bytes-at c = search needs
@@ -51,7 +51,7 @@ same-requires c κs = search needs
 
 returns-2 : tie.Need-returns-2
 unfolding paramAt
-returns-2 c = rw rowAt-cells (names-bytes _ _ _ (c .before .before .before .before .nameable .ensures) (c .before .before .before .if1 .left) (c .before .bytes-at .ensures) (c .same .ensures))
+returns-2 c = rw rowAt-cells (names-bytes _ _ _ (c .before .before .before .before .may-be-named .ensures) (c .before .before .before .if1 .left) (c .before .bytes-at .ensures) (c .same .ensures))
 
 pub is-named-spec : {M : Type 1} → statement M
 is-named-spec =
@@ -59,12 +59,12 @@ is-named-spec =
     (tie.spec
     mul-at
     add-at
-    mul-nameable
-    shared-slice-read-nameable
-    add-nameable
-    mul-nameable-2
-    shared-slice-read-nameable-2
-    nameable-requires
+    mul-may-be-named
+    shared-slice-read-may-be-named
+    add-may-be-named
+    mul-may-be-named-2
+    shared-slice-read-may-be-named-2
+    may-be-named-requires
     returns
     add-bytes-at
     mul-bytes-at

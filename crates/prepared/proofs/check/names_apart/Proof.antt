@@ -36,23 +36,23 @@ mul-at c = search needs
 add-at : tie.Need-add-at Inv-loop μ-loop
 add-at c = search needs
 
-mul-nameable : tie.Need-mul-nameable Inv-loop μ-loop
-mul-nameable c = search needs
+mul-may-be-named : tie.Need-mul-may-be-named Inv-loop μ-loop
+mul-may-be-named c = search needs
 
-shared-slice-read-nameable : tie.Need-shared-slice-read-nameable Inv-loop μ-loop
-shared-slice-read-nameable c = search needs
+shared-slice-read-may-be-named : tie.Need-shared-slice-read-may-be-named Inv-loop μ-loop
+shared-slice-read-may-be-named c = search needs
 
-add-nameable : tie.Need-add-nameable Inv-loop μ-loop
-add-nameable c = search needs
+add-may-be-named : tie.Need-add-may-be-named Inv-loop μ-loop
+add-may-be-named c = search needs
 
-mul-nameable-2 : tie.Need-mul-nameable-2 Inv-loop μ-loop
-mul-nameable-2 c = search needs
+mul-may-be-named-2 : tie.Need-mul-may-be-named-2 Inv-loop μ-loop
+mul-may-be-named-2 c = search needs
 
-shared-slice-read-nameable-2 : tie.Need-shared-slice-read-nameable-2 Inv-loop μ-loop
-shared-slice-read-nameable-2 c = search needs
+shared-slice-read-may-be-named-2 : tie.Need-shared-slice-read-may-be-named-2 Inv-loop μ-loop
+shared-slice-read-may-be-named-2 c = search needs
 
-nameable-requires : tie.Need-nameable-requires Inv-loop μ-loop
-nameable-requires c κs = search needs
+may-be-named-requires : tie.Need-may-be-named-requires Inv-loop μ-loop
+may-be-named-requires c κs = search needs
 
 add-slot : tie.Need-add-slot Inv-loop μ-loop
 add-slot c = search needs
@@ -81,7 +81,7 @@ returns c =
     let at = inside .before .loop in
     let a = inside .before .before .before .before .args in
     apart-twice (paramAt (a .area .now) (a .cells .now)) (a .n) (at .i) (at .inv .1) (inside .loop-test .taken)
-    (nameable-cells (a .area .now) (a .cells .now) (at .i) ∙ sym (asked .nameable .ensures) ∙ named .if1 .taken)
+    (nameable-cells (a .area .now) (a .cells .now) (at .i) ∙ sym (asked .may-be-named .ensures) ∙ named .if1 .taken)
     (sym (c .before .known-before .ensures) ∙ c .if3 .taken)
 
 array-write-used : tie.Need-array-write-used Inv-loop μ-loop
@@ -102,7 +102,7 @@ loop-again c =
     let start = inside .before .before .before .before in
     let a = start .args in
     let new = apart-new (paramAt (a .area .now) (a .cells .now)) (a .n) (at .i) (at .inv .1) (inside .loop-test .taken) in
-    let told = nameable-cells (a .area .now) (a .cells .now) (at .i) ∙ sym (asked .nameable .ensures) in (
+    let told = nameable-cells (a .area .now) (a .cells .now) (at .i) ∙ sym (asked .may-be-named .ensures) in (
       search needs,
       ⊎-elim
           (λ w. ⊎-elim (λ v. new (sym (v .1 .ensures) ∙ v .2 .left))
@@ -131,12 +131,12 @@ names-apart-spec =
     loop-holds
     mul-at
     add-at
-    mul-nameable
-    shared-slice-read-nameable
-    add-nameable
-    mul-nameable-2
-    shared-slice-read-nameable-2
-    nameable-requires
+    mul-may-be-named
+    shared-slice-read-may-be-named
+    add-may-be-named
+    mul-may-be-named-2
+    shared-slice-read-may-be-named-2
+    may-be-named-requires
     add-slot
     mul-slot
     shared-slice-read-slot

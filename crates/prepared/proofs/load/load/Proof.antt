@@ -36,8 +36,8 @@ mul-params c = search needs
 shared-slice-read-params : tie.Need-shared-slice-read-params Inv-loop μ-loop
 shared-slice-read-params c = search needs
 
-mul-params-2 : tie.Need-mul-params-2 Inv-loop μ-loop
-mul-params-2 c = search needs
+cast-params : tie.Need-cast-params Inv-loop μ-loop
+cast-params c = omega (arith, c .before .before .before .before .pre .1 .code (c .before .before .loop .i) (c .before .loop-test .taken))
 
 element-write-params : tie.Need-element-write-params Inv-loop μ-loop
 element-write-params c = search needs
@@ -45,14 +45,14 @@ element-write-params c = search needs
 add-params : tie.Need-add-params Inv-loop μ-loop
 add-params c = search needs
 
-mul-params-3 : tie.Need-mul-params-3 Inv-loop μ-loop
-mul-params-3 c = search needs
+mul-params-2 : tie.Need-mul-params-2 Inv-loop μ-loop
+mul-params-2 c = search needs
 
 shared-slice-read-params-2 : tie.Need-shared-slice-read-params-2 Inv-loop μ-loop
 shared-slice-read-params-2 c = search needs
 
-mul-params-4 : tie.Need-mul-params-4 Inv-loop μ-loop
-mul-params-4 c = search needs
+cast-params-2 : tie.Need-cast-params-2 Inv-loop μ-loop
+cast-params-2 c = omega (arith, c .before .before .before .before .before .pre .1 .style (c .before .before .before .loop .i) (c .before .before .loop-test .taken))
 
 element-write-params-2 : tie.Need-element-write-params-2 Inv-loop μ-loop
 element-write-params-2 c = search needs
@@ -60,14 +60,14 @@ element-write-params-2 c = search needs
 add-params-2 : tie.Need-add-params-2 Inv-loop μ-loop
 add-params-2 c = search needs
 
-mul-params-5 : tie.Need-mul-params-5 Inv-loop μ-loop
-mul-params-5 c = search needs
+mul-params-3 : tie.Need-mul-params-3 Inv-loop μ-loop
+mul-params-3 c = search needs
 
 shared-slice-read-params-3 : tie.Need-shared-slice-read-params-3 Inv-loop μ-loop
 shared-slice-read-params-3 c = search needs
 
-mul-params-6 : tie.Need-mul-params-6 Inv-loop μ-loop
-mul-params-6 c = search needs
+mul-params-4 : tie.Need-mul-params-4 Inv-loop μ-loop
+mul-params-4 c = search needs
 
 element-write-params-3 : tie.Need-element-write-params-3 Inv-loop μ-loop
 element-write-params-3 c = search needs
@@ -75,14 +75,14 @@ element-write-params-3 c = search needs
 add-params-3 : tie.Need-add-params-3 Inv-loop μ-loop
 add-params-3 c = search needs
 
-mul-params-7 : tie.Need-mul-params-7 Inv-loop μ-loop
-mul-params-7 c = search needs
+mul-params-5 : tie.Need-mul-params-5 Inv-loop μ-loop
+mul-params-5 c = search needs
 
 shared-slice-read-params-4 : tie.Need-shared-slice-read-params-4 Inv-loop μ-loop
 shared-slice-read-params-4 c = search needs
 
-mul-params-8 : tie.Need-mul-params-8 Inv-loop μ-loop
-mul-params-8 c = search needs
+mul-params-6 : tie.Need-mul-params-6 Inv-loop μ-loop
+mul-params-6 c = search needs
 
 element-write-params-4 : tie.Need-element-write-params-4 Inv-loop μ-loop
 element-write-params-4 c = search needs
@@ -90,14 +90,14 @@ element-write-params-4 c = search needs
 add-params-4 : tie.Need-add-params-4 Inv-loop μ-loop
 add-params-4 c = search needs
 
-mul-params-9 : tie.Need-mul-params-9 Inv-loop μ-loop
-mul-params-9 c = search needs
+mul-params-7 : tie.Need-mul-params-7 Inv-loop μ-loop
+mul-params-7 c = search needs
 
 shared-slice-read-params-5 : tie.Need-shared-slice-read-params-5 Inv-loop μ-loop
 shared-slice-read-params-5 c = search needs
 
-mul-params-10 : tie.Need-mul-params-10 Inv-loop μ-loop
-mul-params-10 c = search needs
+mul-params-8 : tie.Need-mul-params-8 Inv-loop μ-loop
+mul-params-8 c = search needs
 
 element-write-params-5 : tie.Need-element-write-params-5 Inv-loop μ-loop
 element-write-params-5 c = search needs
@@ -120,7 +120,7 @@ returns c =
     let e : at .i ≡ p .len = omega (arith, at .inv .0, at .inv .1, c .loop-test .left) in
     record {
       len = at .inv .1;
-      list = λ area d x. loaded-list cells p (rw e at (at .inv .2)) area d (at .inv .1) (omega (arith, at .inv .1, start .pre .few)) (rw (at .inv .1) x);
+      list = λ area d x. loaded-list cells p (rw e at (at .inv .2)) area d (at .inv .1) (omega (arith, at .inv .1, start .pre .0 .few)) (rw (at .inv .1) x);
     }
 
 pub load-spec : {M : Type 1} → statement M
@@ -135,27 +135,27 @@ load-spec =
     add-at
     mul-params
     shared-slice-read-params
-    mul-params-2
+    cast-params
     element-write-params
     add-params
-    mul-params-3
+    mul-params-2
     shared-slice-read-params-2
-    mul-params-4
+    cast-params-2
     element-write-params-2
     add-params-2
-    mul-params-5
+    mul-params-3
     shared-slice-read-params-3
-    mul-params-6
+    mul-params-4
     element-write-params-3
     add-params-3
-    mul-params-7
+    mul-params-5
     shared-slice-read-params-4
-    mul-params-8
+    mul-params-6
     element-write-params-4
     add-params-4
-    mul-params-9
+    mul-params-7
     shared-slice-read-params-5
-    mul-params-10
+    mul-params-8
     element-write-params-5
     add-i
     loop-less

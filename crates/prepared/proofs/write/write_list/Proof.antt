@@ -30,20 +30,14 @@ put-requires c κs = search needs
 loop-holds : tie.Need-loop-holds Inv-loop μ-loop
 loop-holds c = writing-none _ _ _ (omega (arith, c .before .before .before .before .before .before .before .pre .1, c .before .before .put .kept .0))
 
-mul-row-for : tie.Need-mul-row-for Inv-loop μ-loop
-mul-row-for c = search needs
-
 element-copy-out-row-for : tie.Need-element-copy-out-row-for Inv-loop μ-loop
 element-copy-out-row-for c = search needs
-
-mul-row-for-2 : tie.Need-mul-row-for-2 Inv-loop μ-loop
-mul-row-for-2 c = search needs
 
 element-copy-out-row-for-2 : tie.Need-element-copy-out-row-for-2 Inv-loop μ-loop
 element-copy-out-row-for-2 c = search needs
 
-mul-row-for-3 : tie.Need-mul-row-for-3 Inv-loop μ-loop
-mul-row-for-3 c = search needs
+mul-row-for : tie.Need-mul-row-for Inv-loop μ-loop
+mul-row-for c = search needs
 
 element-copy-out-row-for-3 : tie.Need-element-copy-out-row-for-3 Inv-loop μ-loop
 element-copy-out-row-for-3 c = search needs
@@ -114,11 +108,9 @@ write-list-spec =
     new-requires
     put-requires
     loop-holds
-    mul-row-for
     element-copy-out-row-for
-    mul-row-for-2
     element-copy-out-row-for-2
-    mul-row-for-3
+    mul-row-for
     element-copy-out-row-for-3
     mul-new
     element-copy-out-new

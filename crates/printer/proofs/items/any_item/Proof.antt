@@ -26,14 +26,8 @@ loop-holds : tie.Need-loop-holds Inv-loop μ-loop
 unfolding parametersIn
 loop-holds c = (search needs, λ area. rw sub-zero)
 
-mul-is-under : tie.Need-mul-is-under Inv-loop μ-loop
-mul-is-under c = search needs
-
 element-copy-out-is-under : tie.Need-element-copy-out-is-under Inv-loop μ-loop
 element-copy-out-is-under c = search needs
-
-mul-is-under-2 : tie.Need-mul-is-under-2 Inv-loop μ-loop
-mul-is-under-2 c = search needs
 
 element-copy-out-is-under-2 : tie.Need-element-copy-out-is-under-2 Inv-loop μ-loop
 element-copy-out-is-under-2 c = search needs
@@ -83,9 +77,7 @@ any-item-spec =
     Inv-loop
     μ-loop
     loop-holds
-    mul-is-under
     element-copy-out-is-under
-    mul-is-under-2
     element-copy-out-is-under-2
     is-under-requires
     returns

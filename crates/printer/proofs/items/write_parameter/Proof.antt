@@ -11,14 +11,8 @@ use borrow.Author.Needs.{needs}
 use Rattle.printer.proofs.items.write_parameter.Statement.{statement}
 use Rattle.printer.proofs.items.write_parameter.Tie as tie
 
-mul-code : tie.Need-mul-code
-mul-code c = search needs
-
 element-copy-out-code : tie.Need-element-copy-out-code
 element-copy-out-code c = search needs
-
-mul-is-under : tie.Need-mul-is-under
-mul-is-under c = search needs
 
 element-copy-out-is-under : tie.Need-element-copy-out-is-under
 element-copy-out-is-under c = search needs
@@ -76,9 +70,7 @@ pub write-parameter-spec : {M : Type 1} → statement M
 write-parameter-spec =
     tie.close
     (tie.spec
-    mul-code
     element-copy-out-code
-    mul-is-under
     element-copy-out-is-under
     is-under-requires
     returns

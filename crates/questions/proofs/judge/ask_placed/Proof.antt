@@ -30,14 +30,11 @@ within c =
       missing-within (a .codes .now) (a .sources .now) (a .next) (a .len) (c .i .given .0 .0) (sym (missing .first-missing .ensures) ∙ ap indexOf (c .i .given .1)),
     )
 
-mul-missing : tie.Need-mul-missing
-mul-missing c = let inside = within (c .before) in search needs
-
 element-copy-out-missing : tie.Need-element-copy-out-missing
 element-copy-out-missing c = within (c .before)
 
-mul-missing-2 : tie.Need-mul-missing-2
-mul-missing-2 c = let inside = within (c .before .before) in search needs
+mul-missing : tie.Need-mul-missing
+mul-missing c = let inside = within (c .before .before) in search needs
 
 element-copy-out-missing-2 : tie.Need-element-copy-out-missing-2
 element-copy-out-missing-2 c = within (c .before .before)
@@ -75,9 +72,8 @@ ask-placed-spec =
     (tie.spec
     first-missing-requires
     enum-known-i
-    mul-missing
     element-copy-out-missing
-    mul-missing-2
+    mul-missing
     element-copy-out-missing-2
     missing-requires
     enum-told

@@ -24,14 +24,11 @@ loop-holds c =
     let a = c .before .before .before .before .args in
     (search needs, refl, lines-none (slotLineAt (a .spec .now) (a .call .now) (a .t3) (a .board .now)) (a .at) (a .out .now) (omega (arith, c .before .before .before .before .pre .1)))
 
-mul-write-slot : tie.Need-mul-write-slot Inv-loop μ-loop
-mul-write-slot c = search needs
-
 element-copy-out-write-slot : tie.Need-element-copy-out-write-slot Inv-loop μ-loop
 element-copy-out-write-slot c = search needs
 
-mul-write-slot-2 : tie.Need-mul-write-slot-2 Inv-loop μ-loop
-mul-write-slot-2 c = search needs
+mul-write-slot : tie.Need-mul-write-slot Inv-loop μ-loop
+mul-write-slot c = search needs
 
 element-copy-out-write-slot-2 : tie.Need-element-copy-out-write-slot-2 Inv-loop μ-loop
 element-copy-out-write-slot-2 c = search needs
@@ -83,4 +80,4 @@ returns c =
     put-same _ _ (ap (linesTo (slotLineAt (a .spec .now) (a .call .now) (a .t3) (a .board .now))) whole) (l .inv .2)
 
 pub write-slots-spec : {M : Type 1} → statement M
-write-slots-spec = tie.close (tie.spec Inv-loop μ-loop loop-holds mul-write-slot element-copy-out-write-slot mul-write-slot-2 element-copy-out-write-slot-2 mul-pair-at pair-at-requires write-slot-requires add-i loop-less loop-again same-length returns)
+write-slots-spec = tie.close (tie.spec Inv-loop μ-loop loop-holds element-copy-out-write-slot mul-write-slot element-copy-out-write-slot-2 mul-pair-at pair-at-requires write-slot-requires add-i loop-less loop-again same-length returns)

@@ -36,9 +36,6 @@ returns-2 c =
     let a = c .before .before .before .before .before .args in
     ap (λ v (stars named : ℕ). taken v) (c .pair-at2 .ensures) ∙ sym (slot-named (a .codes .now) (a .kinds .now) (a .payloads .now) (a .sources .now) (a .cells .now) (headOf (a .h)) (a .next) (a .k) (c .before .before .before .if1 .left) (c .before .if2 .taken))
 
-mul-unfilled : tie.Need-mul-unfilled
-mul-unfilled c = search needs
-
 element-copy-out-unfilled : tie.Need-element-copy-out-unfilled
 element-copy-out-unfilled c = search needs
 
@@ -77,7 +74,6 @@ slot-at-spec =
     element-copy-out-source
     pair-at-requires-2
     returns-2
-    mul-unfilled
     element-copy-out-unfilled
     mul-new
     element-copy-out-new

@@ -50,53 +50,50 @@ returns c =
 enum-told : tie.Need-enum-told
 enum-told c = search needs
 
-mul-self : tie.Need-mul-self
-mul-self c = omega (arith, room c)
+cast-self : tie.Need-cast-self
+cast-self c = search needs
 
 element-write-self : tie.Need-element-write-self
-element-write-self c = omega (arith, room c)
+element-write-self c = omega (arith, room (c .before))
 
 number-requires : tie.Need-number-requires
 number-requires c κs = search needs
 
-mul-self-2 : tie.Need-mul-self-2
-mul-self-2 c = omega (arith, room (c .before))
-
 element-write-self-2 : tie.Need-element-write-self-2
-element-write-self-2 c = omega (arith, room (c .before))
+element-write-self-2 c = omega (arith, room (c .before .before))
 
-mul-self-3 : tie.Need-mul-self-3
-mul-self-3 c = omega (arith, room (c .before))
+mul-self : tie.Need-mul-self
+mul-self c = omega (arith, room (c .before .before))
 
 element-write-self-3 : tie.Need-element-write-self-3
-element-write-self-3 c = omega (arith, room (c .before))
+element-write-self-3 c = omega (arith, room (c .before .before))
 
-mul-self-4 : tie.Need-mul-self-4
-mul-self-4 c = omega (arith, room (c .before))
+mul-self-2 : tie.Need-mul-self-2
+mul-self-2 c = omega (arith, room (c .before .before))
 
 element-write-self-4 : tie.Need-element-write-self-4
-element-write-self-4 c = omega (arith, room (c .before))
+element-write-self-4 c = omega (arith, room (c .before .before))
 
-mul-self-5 : tie.Need-mul-self-5
-mul-self-5 c = omega (arith, room (c .before))
+mul-self-3 : tie.Need-mul-self-3
+mul-self-3 c = omega (arith, room (c .before .before))
 
 element-write-self-5 : tie.Need-element-write-self-5
-element-write-self-5 c = omega (arith, room (c .before))
+element-write-self-5 c = omega (arith, room (c .before .before))
 
 add-self : tie.Need-add-self
-add-self c = omega (arith, room (c .before))
+add-self c = omega (arith, room (c .before .before))
 
 positional-only-requires : tie.Need-positional-only-requires
-positional-only-requires c κs = room (c .before)
+positional-only-requires c κs = room (c .before .before)
 
 positional-requires : tie.Need-positional-requires
-positional-requires c κs = room (c .before .before)
+positional-requires c κs = room (c .before .before .before)
 
 returns-2 : tie.Need-returns-2
 unfolding stepOf
 returns-2 c =
-    let start = c .before .before .before .before .before .before .before .before .before .before .before in
-    let told = c .before .before .before in
+    let start = c .before .before .before .before .before .before .before .before .before .before .before .before in
+    let told = c .before .before .before .before in
     let number = c .before .before .number in
     let b = start .args .t1 in
     let s = start .args .s in
@@ -122,16 +119,15 @@ add-spec =
     refused-requires
     returns
     enum-told
-    mul-self
+    cast-self
     element-write-self
     number-requires
-    mul-self-2
     element-write-self-2
-    mul-self-3
+    mul-self
     element-write-self-3
-    mul-self-4
+    mul-self-2
     element-write-self-4
-    mul-self-5
+    mul-self-3
     element-write-self-5
     add-self
     positional-only-requires

@@ -11,8 +11,8 @@ use Rattle.builder.proofs.LawsSpec.{longer-stored}
 use Rattle.builder.proofs.spec.ParametersSpecBuilder.push.Statement.{statement}
 use Rattle.builder.proofs.spec.ParametersSpecBuilder.push.Tie as tie
 
-mul-self : tie.Need-mul-self
-mul-self c = search needs
+cast-self : tie.Need-cast-self
+cast-self c = search needs
 
 element-write-self : tie.Need-element-write-self
 element-write-self c = search needs
@@ -20,26 +20,23 @@ element-write-self c = search needs
 number-requires : tie.Need-number-requires
 number-requires c κs = search needs
 
-mul-self-2 : tie.Need-mul-self-2
-mul-self-2 c = search needs
-
 element-write-self-2 : tie.Need-element-write-self-2
 element-write-self-2 c = search needs
 
-mul-self-3 : tie.Need-mul-self-3
-mul-self-3 c = search needs
+mul-self : tie.Need-mul-self
+mul-self c = search needs
 
 element-write-self-3 : tie.Need-element-write-self-3
 element-write-self-3 c = search needs
 
-mul-self-4 : tie.Need-mul-self-4
-mul-self-4 c = search needs
+mul-self-2 : tie.Need-mul-self-2
+mul-self-2 c = search needs
 
 element-write-self-4 : tie.Need-element-write-self-4
 element-write-self-4 c = search needs
 
-mul-self-5 : tie.Need-mul-self-5
-mul-self-5 c = search needs
+mul-self-3 : tie.Need-mul-self-3
+mul-self-3 c = search needs
 
 element-write-self-5 : tie.Need-element-write-self-5
 element-write-self-5 c = search needs
@@ -50,9 +47,9 @@ add-self c = search needs
 returns : tie.Need-returns
 unfolding stepOf
 returns c =
-    let b = c .before .args .t1 in
-    let s = c .before .args .s in
-    let held = c .before .good .0 .1 .1 in
+    let b = c .before .before .args .t1 in
+    let s = c .before .before .args .s in
+    let held = c .before .before .good .0 .1 .1 in
     let codes : length (b .codes) ≡ 64 = length-held (b .codes) (held .0 .1 .0 .1) in
     let styles : length (b .styles) ≡ 64 = length-held (b .styles) (held .1 .0 .1 .0 .1) in
     let names : length (b .names) ≡ 64 = length-held (b .names) (held .1 .1 .0 .1 .0 .1) in
@@ -72,16 +69,15 @@ pub push-spec : {M : Type 1} → statement M
 push-spec =
     tie.close
     (tie.spec
-    mul-self
+    cast-self
     element-write-self
     number-requires
-    mul-self-2
     element-write-self-2
-    mul-self-3
+    mul-self
     element-write-self-3
-    mul-self-4
+    mul-self-2
     element-write-self-4
-    mul-self-5
+    mul-self-3
     element-write-self-5
     add-self
     returns)

@@ -1,10 +1,10 @@
--- `builder::params::nameable` meets its contract: each answer by the ranges in which the code and the style's number lie.
+-- `builder::params::may_be_named` meets its contract: each answer by the ranges in which the code and the style's number lie.
 -- Assumes nothing.
 use mathlib.Core.Path.{sym, _∙_}
 use mathlib.Core.Logic.{inl, inr}
 use Rattle.builder.proofs.LawsParams.{mayBeNamed-below, mayBeNamed-above, mayBeNamed-plain, takesName-number, takesName-other}
-use Rattle.builder.proofs.params.nameable.Statement.{statement}
-use Rattle.builder.proofs.params.nameable.Tie as tie
+use Rattle.builder.proofs.params.may_be_named.Statement.{statement}
+use Rattle.builder.proofs.params.may_be_named.Tie as tie
 
 returns : tie.Need-returns
 returns c =
@@ -29,5 +29,5 @@ returns-4 c = sym (mayBeNamed-below _ _ (c .if1 .taken))
 returns-5 : tie.Need-returns-5
 returns-5 c = sym (mayBeNamed-above _ _ (c .if2 .left))
 
-pub nameable-spec : {M : Type 1} → statement M
-nameable-spec = tie.close (tie.spec returns returns-2 returns-3 returns-4 returns-5)
+pub may-be-named-spec : {M : Type 1} → statement M
+may-be-named-spec = tie.close (tie.spec returns returns-2 returns-3 returns-4 returns-5)
