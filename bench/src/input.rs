@@ -6,16 +6,20 @@ const NAMES: &str = include_str!("../names.txt");
 #[derive(Clone, Copy, PartialEq, Eq, Debug)]
 pub enum Shape {
     Positional,
+    // All by name, in the list's order.
     Named,
+    // All by name, in another order.
+    Shuffled,
     // A quarter each by position, as items of a list, by name, as entries of a dictionary.
     Spread,
     // All by name, the last one misspelled: a parameter is missing.
     Refused,
 }
 
-pub const SHAPES: [Shape; 4] = [
+pub const SHAPES: [Shape; 5] = [
     Shape::Positional,
     Shape::Named,
+    Shape::Shuffled,
     Shape::Spread,
     Shape::Refused,
 ];
@@ -25,6 +29,7 @@ impl fmt::Display for Shape {
         f.write_str(match self {
             Shape::Positional => "all positional",
             Shape::Named => "all named",
+            Shape::Shuffled => "named out of order",
             Shape::Spread => "half spread",
             Shape::Refused => "refused",
         })
@@ -62,7 +67,7 @@ fn call(names: &[&str], shape: Shape) -> Record {
     let m = names.len();
     let (p, s, n) = match shape {
         Shape::Positional => (m, 0, 0),
-        Shape::Named | Shape::Refused => (0, 0, m),
+        Shape::Named | Shape::Shuffled | Shape::Refused => (0, 0, m),
         Shape::Spread => (
             m.div_ceil(4),
             m / 4,
@@ -87,7 +92,12 @@ fn call(names: &[&str], shape: Shape) -> Record {
         let name = if misspelled { "strat" } else { names[i] };
         cells.extend([6, push_text(&mut area, name), 3, i as u64]);
     };
-    (p + s..p + s + n).for_each(|i| pair(i, &mut cells));
+    let mut written: Vec<usize> = (p + s..p + s + n).collect();
+    if shape == Shape::Shuffled {
+        // 37 is odd, so no two of 64 numbers meet here.
+        written.sort_by_key(|i| i * 37 % 64);
+    }
+    written.into_iter().for_each(|i| pair(i, &mut cells));
     (p..p + s).for_each(|i| cells.extend([3, i as u64]));
     (p + s + n..m).for_each(|i| pair(i, &mut cells));
     Record { cells, area }

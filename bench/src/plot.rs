@@ -104,7 +104,7 @@ fn legend(svg: &mut String) -> std::fmt::Result {
 
 pub fn plot(rows: &str) -> Option<String> {
     let points = read(rows)?;
-    let mut svg = format!("<svg xmlns='http://www.w3.org/2000/svg' width='{}' height='{}' font-family='sans-serif' font-size='11'>\n<rect width='100%' height='100%' fill='white'/>\n", 2.0 * WIDTH, 2.0 * HEIGHT + 24.0);
+    let mut svg = format!("<svg xmlns='http://www.w3.org/2000/svg' width='{}' height='{}' font-family='sans-serif' font-size='11'>\n<rect width='100%' height='100%' fill='white'/>\n", 2.0 * WIDTH, SHAPES.len().div_ceil(2) as f64 * HEIGHT + 24.0);
     legend(&mut svg).ok()?;
     for (i, shape) in SHAPES.iter().enumerate() {
         let (x, y) = (WIDTH * (i % 2) as f64, 24.0 + HEIGHT * (i / 2) as f64);

@@ -118,15 +118,14 @@ pub fn bytes_at<'a>(area: &'a [u8], payload: u64) -> &'a [u8]
     ensures { λ r. ⌜ now r ≡ bytesAt (now (area .entry)) payload ⌝ }
 {
     let start = (payload / 256) as usize;
-    let len = (payload % 256) as usize;
+    let end = start + (payload % 256) as usize;
+    if end <= area.len() {
+        return &area[start..end];
+    }
     if area.len() < start {
         return &area[..0];
     }
-    if area.len() - start < len {
-        return &area[start..];
-    }
-    let end = start + len;
-    &area[start..end]
+    &area[start..]
 }
 
 impl Parameters {

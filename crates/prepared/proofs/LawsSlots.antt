@@ -36,14 +36,14 @@ other-row area cells bytes i j ej ei n = names-key area bytes (rowAt cells j) ej
 
 -- the slot of row j's key
 abbrev pub slotAt : List ℕ → ℕ → ℕ
-slotAt cells j = getD cells (2 + 6 * j + 5) 0 % 501
+slotAt cells j = getD cells (2 + 6 * j + 5) 0 % 929
 
 -- that of each nameable row before row i is marked
 pub record Marked (area cells used : List ℕ) (i : ℕ) : Type 0 where
-  pub size : length used ≡ 501
+  pub size : length used ≡ 929
   pub marked : (j : ℕ) → j < i → nameable (paramAt area cells j) ≡ true → getD used (slotAt cells j) 0 ≡ 1
 
-pub marked-none : (area cells used : List ℕ) → length used ≡ 501 → Marked area cells used 0
+pub marked-none : (area cells used : List ℕ) → length used ≡ 929 → Marked area cells used 0
 marked-none area cells used e = record { size = e; marked = λ j u t. absurd (omega arith) }
 
 module _ (area cells used : List ℕ) (i : ℕ) (m : Marked area cells used i) where
@@ -57,7 +57,7 @@ module _ (area cells used : List ℕ) (i : ℕ) (m : Marked area cells used i) w
       bytes = bytesAt area (rowAt cells i .step .name)
 
       same-slot : (j : ℕ) → rowAt cells j .key ≡ rowAt cells i .key → slotAt cells i ≡ slotAt cells j
-      same-slot j e = ap (λ k. k % 501) (sym (key-cell cells i) ∙ sym e ∙ key-cell cells j)
+      same-slot j e = ap (λ k. k % 929) (sym (key-cell cells i) ∙ sym e ∙ key-cell cells j)
 
       go : (j : ℕ) → j < i → (b : Bool) → nameable (paramAt area cells j) ≡ b → names bytes (paramAt area cells j) ≡ false
       go j u true t = other-row area cells bytes i j (keyed .keys j (omega arith)) (keyed .keys i (omega arith)) (λ e. new (ap (λ s. getD used s 0) (same-slot j e) ∙ m .marked j u t))

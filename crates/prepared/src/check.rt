@@ -79,8 +79,8 @@ fn rows_right(cells: &[u64], area: &[u8], n: usize) -> bool
     true
 }
 
-// How many slots there are for the keys of names. By this remainder, names that differ in two last digits alone fall into slots of their own.
-const SLOTS: usize = 501;
+// How many slots there are for the keys of names, as in question 13: names that differ in two last digits alone have slots of their own.
+const SLOTS: usize = 929;
 
 // No nameable name comes twice. Equal names have equal keys and so one slot: a name whose slot is unused so far is new, and only another
 // one is compared with those before it.

@@ -11,18 +11,8 @@ use Rattle.rules.specs.Text.{bytesAt, startOf, sizeOf}
 use Rattle.builder.proofs.params.bytes_at.Statement.{statement}
 use Rattle.builder.proofs.params.bytes_at.Tie as tie
 
-slice-aggregate-result : tie.Need-slice-aggregate-result
-slice-aggregate-result c = search needs
-
-returns : tie.Need-returns
-unfolding bytesAt startOf sizeOf
-returns c =
-    sym
-    (rw (drop-of-length-le (c .before .before .args .area .now) (le-of-lt (c .before .if1 .taken)))
-    (take-nil (c .before .before .args .payload % 256)))
-
-sub-if2 : tie.Need-sub-if2
-sub-if2 c = search needs
+add-end : tie.Need-add-end
+add-end c = search needs
 
 sub-result : tie.Need-sub-result
 sub-result c = search needs
@@ -33,16 +23,18 @@ part-result-start c = search needs
 part-result-end : tie.Need-part-result-end
 part-result-end c = search needs
 
+returns : tie.Need-returns
+unfolding bytesAt startOf sizeOf
+returns c = simp add-sub-cancel-left
+
+slice-aggregate-result : tie.Need-slice-aggregate-result
+slice-aggregate-result c = search needs
+
 returns-2 : tie.Need-returns-2
 unfolding bytesAt startOf sizeOf
 returns-2 c =
-    let area = c .before .before .before .args .area .now in
-    let start = c .before .before .before .args .payload / 256 in
-    take-all (length area - start) (drop start area) (simp length-drop (omega arith))
-    ∙ sym (take-all (c .before .before .before .args .payload % 256) (drop start area) (simp length-drop (omega arith)))
-
-add-end : tie.Need-add-end
-add-end c = search needs
+    let a = c .before .before .before .args in
+    sym (rw (drop-of-length-le (a .area .now) (le-of-lt (c .before .if2 .taken))) (take-nil (a .payload % 256)))
 
 sub-result-2 : tie.Need-sub-result-2
 sub-result-2 c = search needs
@@ -55,20 +47,23 @@ part-result-end-2 c = search needs
 
 returns-3 : tie.Need-returns-3
 unfolding bytesAt startOf sizeOf
-returns-3 c = simp add-sub-cancel-left
+returns-3 c =
+    let area = c .before .before .before .args .area .now in
+    let start = c .before .before .before .args .payload / 256 in
+    take-all (length area - start) (drop start area) (simp length-drop (omega arith))
+    ∙ sym (take-all (c .before .before .before .args .payload % 256) (drop start area) (simp length-drop (omega arith)))
 
 pub bytes-at-spec : {M : Type 1} → statement M
 bytes-at-spec =
     tie.close
     (tie.spec
-    slice-aggregate-result
-    returns
-    sub-if2
+    add-end
     sub-result
     part-result-start
     part-result-end
+    returns
+    slice-aggregate-result
     returns-2
-    add-end
     sub-result-2
     part-result-start-2
     part-result-end-2
