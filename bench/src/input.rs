@@ -94,13 +94,23 @@ fn call(names: &[&str], shape: Shape) -> Record {
     };
     let mut written: Vec<usize> = (p + s..p + s + n).collect();
     if shape == Shape::Shuffled {
-        // 37 is odd, so no two of 64 numbers meet here.
-        written.sort_by_key(|i| i * 37 % 64);
+        shuffle(&mut written);
     }
     written.into_iter().for_each(|i| pair(i, &mut cells));
     (p..p + s).for_each(|i| cells.extend([3, i as u64]));
     (p + s + n..m).for_each(|i| pair(i, &mut cells));
     Record { cells, area }
+}
+
+// The same order each time, by a generator of the usual kind.
+fn shuffle(places: &mut [usize]) {
+    let mut state: u64 = 1;
+    for i in (1..places.len()).rev() {
+        state = state
+            .wrapping_mul(6364136223846793005)
+            .wrapping_add(1442695040888963407);
+        places.swap(i, (state >> 33) as usize % (i + 1));
+    }
 }
 
 pub fn input(size: usize, shape: Shape) -> Input {
