@@ -8,7 +8,7 @@ use native.Mathlib.Omega.{arith}
 use native.Mathlib.Decide.{decLe}
 use lib.Dec.{eqb}
 use Rattle.rules.specs.Value.{Value}
-use Rattle.rules.specs.Parameters.{adds, unknownCode, actOf, plain}
+use Rattle.rules.specs.Parameters.{Style, comesBefore, namedOnly, adds, unknownCode, actOf, mayStand, plain}
 use Rattle.rules.specs.ParameterQuestions.{isCode, hasName, usesRight, isZero}
 use Rattle.builder.specs.Params.{kindFor}
 
@@ -66,6 +66,14 @@ module _ (v : Value) where
 
   pub plain-above : (code : ℕ) → 4 ≤ code → plain (kindFor (actOf code v)) ≡ false
   plain-above = code-4 (λ n. plain (kindFor (actOf n v)) ≡ false) refl refl refl refl (λ n e. rw e)
+
+  -- ---- where they may stand
+
+  pub mayStand-star : (s : Style) (code : ℕ) → 5 ≤ code → code < 7 → mayStand s (actOf code v) ≡ comesBefore s namedOnly
+  mayStand-star s code l u =
+      code-7 (λ n. 5 ≤ n → n < 7 → mayStand s (actOf n v) ≡ comesBefore s namedOnly)
+      (λ a b. absurd (omega arith)) (λ a b. refl) (λ a b. refl) (λ a b. absurd (omega arith))
+      code (omega arith) (omega arith) l u
 
   -- ---- questions 2 to 4 of a step
 

@@ -29,7 +29,7 @@ use Rattle.builder.specs.Params.{styleOf, kindFor, stepOf, parametersIn,
 use Rattle.builder.specs.Spec.{SoFar, Built, Longer, Stepping, refusedBy, underStyle, styleIn, paramsOf, listIn, indexOf}
 use Rattle.builder.proofs.params.CurrentParameterStyle.{the-type}
 use Rattle.cells.proofs.LawsListed.{length-listed, tally-snoc, first-snoc, orFirst}
-use Rattle.builder.proofs.LawsCodes.{code-0, code-8}
+use Rattle.builder.proofs.LawsCodes.{mayStand-star, code-8}
 use Rattle.builder.proofs.LawsParams.{Room, stored, stored-list, styleFor-rank, known-columns}
 use Rattle.builder.proofs.LawsAsk.{askStep-5, askStep-slash, askStep-star, askStep-adds, askStep-6, askStep-fine, mayStand-plain, nextStyle-plain, isArgs-plain, isKwargs-plain, act-code, act-plain, kind-plain}
 
@@ -364,21 +364,19 @@ module _ (area : List ℕ) (b : ParametersSpecBuilder) (s : Step) where
       stepping-5 area b (stepOf s)
       (rw (act-plain s l u) (mayStand-plain (styleIn b) (kindFor (act (stepOf s))) (kind-plain s l u) ∙ rw d))
 
-  pub refused-below : s .code < 1 → Stepping area b (stepOf s) (refusedBy 5 b)
-  refused-below u =
-      stepping-5 area b (stepOf s)
-      (rw (act-code s (s .code) refl, code-0 (stepOf s .default) (s .code) u))
-
-  pub refused-above
-      : 4 ≤ s .code
-      → (s .code ≡ 4 → ⊥)
-      → (s .code ≡ 5 → ⊥)
-      → (s .code ≡ 6 → ⊥)
-      → (s .code ≡ 7 → ⊥)
+  pub refused-star
+      : (style : CurrentParameterStyle)
+      → 5 ≤ s .code → s .code < 7 → b .«current_style» ≡ style
+      → comesBefore (styleOf style) namedOnly ≡ false
       → Stepping area b (stepOf s) (refusedBy 5 b)
-  refused-above l n₄ n₅ n₆ n₇ =
+  refused-star style l u d m =
       stepping-5 area b (stepOf s)
-      (rw (act-code s (s .code) refl, code-8 (s .code) (stepOf s .default) (omega arith)))
+      (rw (act-code s (s .code) refl) (mayStand-star (stepOf s .default) (styleIn b) (s .code) l u ∙ rw d m))
+
+  pub refused-above : 8 ≤ s .code → Stepping area b (stepOf s) (refusedBy 5 b)
+  refused-above l =
+      stepping-5 area b (stepOf s)
+      (rw (act-code s (s .code) refl, code-8 (s .code) (stepOf s .default) l))
 
 -- ---- what an arm for several styles says of the style
 

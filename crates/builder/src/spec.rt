@@ -129,14 +129,14 @@ impl ParametersSpecBuilder {
                 CurrentParameterStyle::NamedOnly => self.refused(5), // after `*`
                 CurrentParameterStyle::NoMore => self.refused(5), // after `**kwargs`
             },
-            5 => match style {
+            5..=6 => match style {
                 CurrentParameterStyle::PosOnly | CurrentParameterStyle::PosOrNamed => {
-                    self.no_more_positional_args()
+                    if code == 5 {
+                        self.no_more_positional_args()
+                    } else {
+                        self.args(s)
+                    }
                 }
-                CurrentParameterStyle::NamedOnly | CurrentParameterStyle::NoMore => self.refused(5),
-            },
-            6 => match style {
-                CurrentParameterStyle::PosOnly | CurrentParameterStyle::PosOrNamed => self.args(s),
                 CurrentParameterStyle::NamedOnly | CurrentParameterStyle::NoMore => self.refused(5),
             },
             7 => match style {

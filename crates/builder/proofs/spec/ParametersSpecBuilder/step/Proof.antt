@@ -2,12 +2,13 @@
 -- Assumes nothing.
 use mathlib.Core.Logic.{⊎-elim}
 use mathlib.Core.Path.{refl, ap}
+use native.Mathlib.Omega.{arith}
 use borrow.Author.Needs.{needs}
 use Rattle.rules.specs.Parameters.{comesBefore}
 use Rattle.builder.specs.declared.params.CurrentParameterStyle.the-variants.{PosOrNamed, NamedOnly, NoMore}
 use Rattle.builder.specs.Params.{styleOf}
 use Rattle.builder.proofs.LawsAsk.{act-code}
-use Rattle.builder.proofs.LawsSpec.{refused-code, refused-plain, refused-below, refused-above, under-first-three, under-first-two, under-last-two}
+use Rattle.builder.proofs.LawsSpec.{refused-code, refused-plain, refused-star, refused-above, under-first-three, under-first-two, under-last-two}
 use Rattle.builder.proofs.spec.ParametersSpecBuilder.step.Statement.{statement}
 use Rattle.builder.proofs.spec.ParametersSpecBuilder.step.Tie as tie
 
@@ -35,38 +36,38 @@ enum-told-4 c = search needs
 refused-requires-3 : tie.Need-refused-requires-3
 refused-requires-3 c κs = search needs
 
-no-more-positional-args-requires : tie.Need-no-more-positional-args-requires
-no-more-positional-args-requires c κs = under-first-two (c .before .before .before .args .self .«current_style») (c .match3 .keys1)
-
-refused-requires-4 : tie.Need-refused-requires-4
-refused-requires-4 c κs = search needs
-
-args-requires : tie.Need-args-requires
-args-requires c κs = (c .before .match .keys3, under-first-two (c .before .before .before .args .self .«current_style») (c .match4 .keys1))
-
-refused-requires-5 : tie.Need-refused-requires-5
-refused-requires-5 c κs = search needs
-
 kwargs-requires : tie.Need-kwargs-requires
-kwargs-requires c κs = (c .before .match .keys4, under-first-three (c .before .before .before .args .self .«current_style») (c .match5 .keys1))
+kwargs-requires c κs = (c .before .match .keys2, under-first-three (c .before .before .before .args .self .«current_style») (c .match3 .keys1))
 
 enum-told-5 : tie.Need-enum-told-5
 enum-told-5 c = search needs
 
-refused-requires-6 : tie.Need-refused-requires-6
-refused-requires-6 c κs = search needs
+refused-requires-4 : tie.Need-refused-requires-4
+refused-requires-4 c κs = search needs
 
 add-requires : tie.Need-add-requires
-add-requires c κs = (c .before .before .if1 .left, c .before .if2 .taken, under-first-three (c .before .before .before .before .before .args .self .«current_style») (c .match6 .keys1))
+add-requires c κs = (c .before .before .if1 .left, c .before .if2 .taken, under-first-three (c .before .before .before .before .before .args .self .«current_style») (c .match4 .keys1))
 
 enum-told-6 : tie.Need-enum-told-6
 enum-told-6 c = search needs
 
+refused-requires-5 : tie.Need-refused-requires-5
+refused-requires-5 c κs = search needs
+
+no-more-positional-args-requires : tie.Need-no-more-positional-args-requires
+no-more-positional-args-requires c κs = under-first-two (c .before .before .before .before .before .before .before .args .self .«current_style») (c .before .match5 .keys1)
+
+args-requires : tie.Need-args-requires
+args-requires c κs =
+    let styled = c .before in
+    let rest = styled .before .before .before .before in
+    (omega (arith, c .if4 .left, styled .before .if3 .taken, styled .before .before .if2 .left, rest .match .rest .0 .1), under-first-two (rest .before .before .args .self .«current_style») (styled .match5 .keys1))
+
+refused-requires-6 : tie.Need-refused-requires-6
+refused-requires-6 c κs = search needs
+
 refused-requires-7 : tie.Need-refused-requires-7
 refused-requires-7 c κs = search needs
-
-refused-requires-8 : tie.Need-refused-requires-8
-refused-requires-8 c κs = search needs
 
 returns : tie.Need-returns
 returns c =
@@ -95,54 +96,46 @@ returns-4 c =
     (refused-code (a .area .now) (a .self) (a .s) 4 NoMore (c .before .before .before .match .keys1) (c .before .enum-told4 .given .1) refl)
 
 returns-5 : tie.Need-returns-5
-returns-5 c =
-    let a = c .before .before .before .before .args in
-    c .no-more-positional-args .ensures (a .area .now) _ (act-code (a .s) 5 (c .before .before .match .keys2))
+returns-5 c = c .kwargs .ensures _
 
 returns-6 : tie.Need-returns-6
+unfolding comesBefore
 returns-6 c =
-    let a = c .before .before .before .before .args in
-    let style = a .self .«current_style» in
+    let a = c .before .before .before .before .before .args in
     rw (c .refused4 .ensures)
-    (refused-code (a .area .now) (a .self) (a .s) 5 style (c .before .before .match .keys2) refl (under-last-two style (c .before .match3 .keys2)))
+    (refused-code (a .area .now) (a .self) (a .s) 7 NoMore (c .before .before .before .match .keys2) (c .before .enum-told5 .given .1) refl)
 
 returns-7 : tie.Need-returns-7
-returns-7 c = c .args2 .ensures _
+returns-7 c = c .add .ensures
 
 returns-8 : tie.Need-returns-8
 returns-8 c =
-    let a = c .before .before .before .before .args in
-    let style = a .self .«current_style» in
+    let a = c .before .before .before .before .before .before .before .args in
     rw (c .refused5 .ensures)
-    (refused-code (a .area .now) (a .self) (a .s) 6 style (c .before .before .match .keys3) refl (under-last-two style (c .before .match4 .keys2)))
+    (refused-plain (a .area .now) (a .self) (a .s) (c .before .before .before .before .if1 .left) (c .before .before .before .if2 .taken) (c .before .enum-told6 .given .1))
 
 returns-9 : tie.Need-returns-9
-returns-9 c = c .kwargs .ensures _
+returns-9 c =
+    let a = c .before .before .before .before .before .before .before .before .args in
+    c .no-more-positional-args .ensures (a .area .now) _ (act-code (a .s) 5 (c .before .if4 .taken))
 
 returns-10 : tie.Need-returns-10
-unfolding comesBefore
-returns-10 c =
-    let a = c .before .before .before .before .before .args in
-    rw (c .refused6 .ensures)
-    (refused-code (a .area .now) (a .self) (a .s) 7 NoMore (c .before .before .before .match .keys4) (c .before .enum-told5 .given .1) refl)
+returns-10 c = c .args2 .ensures _
 
 returns-11 : tie.Need-returns-11
-returns-11 c = search needs
+returns-11 c =
+    let a = c .before .before .before .before .before .before .before .args in
+    rw (c .refused6 .ensures)
+    (refused-star (a .area .now) (a .self) (a .s) (a .self .«current_style») (omega arith) (c .before .before .if3 .taken) refl (under-last-two (a .self .«current_style») (c .before .match5 .keys2)))
 
 returns-12 : tie.Need-returns-12
 returns-12 c =
-    let a = c .before .before .before .before .before .before .before .args in
-    rw (c .refused7 .ensures)
-    (refused-plain (a .area .now) (a .self) (a .s) (c .before .before .before .before .if1 .left) (c .before .before .before .if2 .taken) (c .before .enum-told6 .given .1))
-
-returns-13 : tie.Need-returns-13
-returns-13 c =
     let a = c .before .before .before .before .args in
     let none-of = c .before .before .match .rest in
-    rw (c .refused8 .ensures)
+    rw (c .refused7 .ensures)
     (⊎-elim
-    (λ w. refused-below (a .area .now) (a .self) (a .s) (w .taken))
-    (λ w. refused-above (a .area .now) (a .self) (a .s) (w .1 .left) (none-of .0 .0 .0 .1) (none-of .0 .0 .1) (none-of .0 .1) (none-of .1))
+    (λ w. refused-code (a .area .now) (a .self) (a .s) 0 (a .self .«current_style») (omega arith) refl refl)
+    (λ w. refused-above (a .area .now) (a .self) (a .s) (omega (arith, w .2 .left)))
     (c .before .if1 .came))
 
 pub step-spec : {M : Type 1} → statement M
@@ -157,17 +150,16 @@ step-spec =
     refused-requires-2
     enum-told-4
     refused-requires-3
-    no-more-positional-args-requires
-    refused-requires-4
-    args-requires
-    refused-requires-5
     kwargs-requires
     enum-told-5
-    refused-requires-6
+    refused-requires-4
     add-requires
     enum-told-6
+    refused-requires-5
+    no-more-positional-args-requires
+    args-requires
+    refused-requires-6
     refused-requires-7
-    refused-requires-8
     returns
     returns-2
     returns-3
@@ -179,5 +171,4 @@ step-spec =
     returns-9
     returns-10
     returns-11
-    returns-12
-    returns-13)
+    returns-12)
