@@ -65,11 +65,8 @@ module _ (cells area : List ℕ) (h : Head) (read : h ≡ readHead cells) (passe
   ten : kindsRight (readCall cells) ≡ true
   ten = form-kinds 64 cells area form
 
-  few : Few 64 h
-  few = lengths-few cells h read 64 nine
-
   pub call-few : Few 64 h
-  call-few = few
+  call-few = lengths-few cells h read 64 nine
 
   -- its written values are all there
   pub values-within : 6 + 2 * h .p ≤ length cells
@@ -83,11 +80,11 @@ module _ (cells area : List ℕ) (h : Head) (read : h ≡ readHead cells) (passe
   pairs : Pairs area cells (namedFrom h) (h .n)
   pairs =
       record {
-        few = few .few-n;
-        near = named-near h few;
+        few = call-few .few-n;
+        near = named-near h call-few;
         named = λ k below.
             record {
-              near = omega (arith, named-near h few, few .few-n);
+              near = omega (arith, named-near h call-few, call-few .few-n);
               text = name-text area (pairAt cells (namedFrom h + 4 * k)) (name-formed cells area h read form k below);
               inside = name-inside area (pairAt cells (namedFrom h + 4 * k)) (name-formed cells area h read form k below);
             };
@@ -128,7 +125,7 @@ module _ (cells area : List ℕ) (h : Head) (read : h ≡ readHead cells) (passe
   call-ready spec l list next upto =
       record {
         list = list;
-        few = few;
+        few = call-few;
         star = star-passes area cells h read ten;
         double = double-passes area cells h read ten;
         written = written;

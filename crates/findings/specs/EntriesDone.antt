@@ -58,7 +58,7 @@ pub record EntriesLent (spec codes styles names : List ℕ) (len : ℕ) (cells a
   pub others : Others
   pub ready : EntriesReady spec (lentList codes styles names len others) cells area h next sources rest count
 
-abbrev pub EntriesResolved : (spec codes styles names : List ℕ) (len : ℕ) (cells area : List ℕ) (h : Head) (next : ℕ) (sources rest : List ℕ) (count : ℕ) (sourcesAfter restAfter : List ℕ) (r : Entries) → Type 0
-EntriesResolved spec codes styles names len cells area h next sources rest count sourcesAfter restAfter r =
+abbrev pub EntriesResolved : (spec codes styles names : List ℕ) (len : ℕ) (cells area : List ℕ) (h : Head) (next : ℕ) (sources rest : List ℕ) (count : ℕ) (sources₁ rest₁ : List ℕ) (r : Entries) → Type 0
+EntriesResolved spec codes styles names len cells area h next sources rest count sources₁ rest₁ r =
     (o : Others) → EntriesReady spec (lentList codes styles names len o) cells area h next sources rest count
-    → EntriesDone spec (lentList codes styles names len o) cells area h next sourcesAfter restAfter r
+    → EntriesDone spec (lentList codes styles names len o) cells area h next sources₁ rest₁ r

@@ -94,7 +94,7 @@ pub record NamesLent (spec codes styles names : List ℕ) (len : ℕ) (cells are
   pub naming : Naming spec (lentList codes styles names len others) cells area from count sources rest
 
 -- and against each such list that has these columns the names are resolved
-abbrev pub NamesResolved : (spec codes styles names : List ℕ) (len : ℕ) (cells area : List ℕ) (from count : ℕ) (sources rest sourcesAfter restAfter : List ℕ) (r : ℕ) → Type 0
-NamesResolved spec codes styles names len cells area from count sources rest sourcesAfter restAfter r =
+abbrev pub NamesResolved : (spec codes styles names : List ℕ) (len : ℕ) (cells area : List ℕ) (from count : ℕ) (sources rest sources₁ rest₁ : List ℕ) (r : ℕ) → Type 0
+NamesResolved spec codes styles names len cells area from count sources rest sources₁ rest₁ r =
     (o : Others) → Naming spec (lentList codes styles names len o) cells area from count sources rest
-    → Resolved (parametersIn spec (lentList codes styles names len o .params)) cells area (pairsFrom area cells from count) sourcesAfter restAfter r
+    → Resolved (parametersIn spec (lentList codes styles names len o .params)) cells area (pairsFrom area cells from count) sources₁ rest₁ r

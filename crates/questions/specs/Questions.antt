@@ -68,8 +68,8 @@ pub record ListLent (spec codes styles names : List ℕ) (len : ℕ) (indices : 
 
 -- and then `asked` is answered of each such list that has these columns
 abbrev pub JudgedLent : (spec codes styles names : List ℕ) (len : ℕ) (indices : DefParamIndices) (cells area : List ℕ) (h : Head) (next : ℕ) (N : List Named) (sources rest : List ℕ) (count : ℕ)
-    → (List Parameter → Call → Answer) → (sourcesAfter restAfter : List ℕ) → Judged → Type 0
-JudgedLent spec codes styles names len indices cells area h next N sources rest count asked sourcesAfter restAfter r =
+    → (List Parameter → Call → Answer) → (sources₁ rest₁ : List ℕ) → Judged → Type 0
+JudgedLent spec codes styles names len indices cells area h next N sources rest count asked sources₁ rest₁ r =
     (kinds payloads : List ℕ) → CallReady spec (lentWith codes styles names len indices kinds payloads) cells area h next (callOf cells area)
     → Resolved (parametersIn spec (lentWith codes styles names len indices kinds payloads .params)) cells area N sources rest count
-    → Judging (parametersIn spec (lentWith codes styles names len indices kinds payloads .params)) (callOf cells area) cells area (asked (parametersIn spec (lentWith codes styles names len indices kinds payloads .params)) (callOf cells area)) sourcesAfter restAfter r
+    → Judging (parametersIn spec (lentWith codes styles names len indices kinds payloads .params)) (callOf cells area) cells area (asked (parametersIn spec (lentWith codes styles names len indices kinds payloads .params)) (callOf cells area)) sources₁ rest₁ r
