@@ -19,7 +19,7 @@ const LISTS: [List; 2] = [List::Cold, List::Prepared];
 // their bytes, where the Rust has hashes that it trusts.
 fn reason(shape: Shape, list: List) -> &'static str {
     match (list, shape) {
-        (List::Cold, Shape::Shuffled) => "the plain search (a form of 01)",
+        (List::Cold, Shape::Shuffled) => "the builder by value, the plain search (forms of 01)",
         (List::Cold, _) => "the builder by value (a form of 01)",
         (_, Shape::Positional) => "asking each cell",
         (_, Shape::Shuffled) => "the plain search (a form of 01), asking each cell",
