@@ -5,17 +5,18 @@ use mathlib.Core.Bool.{Bool, true, false, cond, _&&_}
 use mathlib.Core.List.{List}
 use Prim.Native.Nat.{ℕ, _+_}
 use lib.Dec.{eqb}
-use lib.ListN.{drop}
+use lib.ListN.{drop, getD}
 use lib.Seq.{drop-drop}
 use mir.Syntax.{w64}
 use mir.Val.{toZ}
-use Rattle.rules.specs.Value.{valueWidth, readValue, callText, wellFormedArgument, wellFormedName, wellFormedKey}
+use Rattle.rules.specs.Value.{Value, valueWidth, readValue, callText, wellFormedArgument, wellFormedName, wellFormedKey}
 use Rattle.rules.specs.CallRecord.{readPair}
 use Rattle.rules.specs.CallQuestions.{wellFormedPair, wellFormedEntry}
 use Rattle.rules.proofs.LawsListing.{and-left}
 use Rattle.cells.specs.Text.{textOf}
 use Rattle.cells.specs.Value.{valueAs, readArgument, readName, readKey}
-use Rattle.cells.specs.Record.{pairAt, argumentAt, nameAt, keyAt}
+use Rattle.cells.specs.Record.{pairAt}
+use Rattle.cells.proofs.LawsRecord.{pairAt-is}
 use Rattle.cells.specs.declared.text.ReadText.{ReadText}
 use Rattle.cells.specs.declared.text.ReadText.the-variants as text
 use Rattle.cells.specs.declared.value.ReadValue.{ReadValue}
@@ -37,39 +38,43 @@ keyRead (key.Word t) = true
 keyRead (key.Number z) = true
 keyRead key.Not = false
 
+-- the cell at an index and the one behind it, as a value
+abbrev twoAt : List ℕ → ℕ → Value
+twoAt cells at = record { kind = getD cells at 0; payload = getD cells (at + 1) 0 }
+
 module _ (area cells : List ℕ) (at : ℕ) where
-  pub value-formed : (r : ReadValue) → r ≡ argumentAt area cells at → valueRead r ≡ wellFormedArgument area (pairAt cells at)
-  unfolding argumentAt readArgument
-  value-formed r e = ap valueRead e ∙ go (wellFormedArgument area (pairAt cells at))
+  pub value-formed : (r : ReadValue) → r ≡ readArgument area (getD cells at 0) (getD cells (at + 1) 0) → valueRead r ≡ wellFormedArgument area (pairAt cells at)
+  unfolding readArgument
+  value-formed r e = rw (pairAt-is cells at) (ap valueRead e ∙ go (wellFormedArgument area (twoAt cells at)))
     where
-      go : (b : Bool) → valueRead (cond b (value.Is (valueAs (pairAt cells at .kind) (pairAt cells at .payload))) value.Not) ≡ b
+      go : (b : Bool) → valueRead (cond b (value.Is (valueAs (getD cells at 0) (getD cells (at + 1) 0))) value.Not) ≡ b
       go true = refl
       go false = refl
 
-  name-formed : (r : ReadText) → r ≡ nameAt area cells at → nameRead r ≡ wellFormedName area (pairAt cells at)
-  unfolding nameAt readName
-  name-formed r e = ap nameRead e ∙ go (wellFormedName area (pairAt cells at))
+  name-formed : (r : ReadText) → r ≡ readName area (getD cells at 0) (getD cells (at + 1) 0) → nameRead r ≡ wellFormedName area (pairAt cells at)
+  unfolding readName
+  name-formed r e = rw (pairAt-is cells at) (ap nameRead e ∙ go (wellFormedName area (twoAt cells at)))
     where
-      go : (b : Bool) → nameRead (cond b (text.Is (textOf (pairAt cells at .payload))) text.Not) ≡ b
+      go : (b : Bool) → nameRead (cond b (text.Is (textOf (getD cells (at + 1) 0))) text.Not) ≡ b
       go true = refl
       go false = refl
 
-  key-formed : (r : ReadKey) → r ≡ keyAt area cells at → keyRead r ≡ wellFormedKey area (pairAt cells at)
-  unfolding keyAt readKey
-  key-formed r e = ap keyRead e ∙ go (wellFormedKey area (pairAt cells at)) (eqb (pairAt cells at .kind) callText)
+  key-formed : (r : ReadKey) → r ≡ readKey area (getD cells at 0) (getD cells (at + 1) 0) → keyRead r ≡ wellFormedKey area (pairAt cells at)
+  unfolding readKey
+  key-formed r e = rw (pairAt-is cells at) (ap keyRead e ∙ go (wellFormedKey area (twoAt cells at)) (eqb (getD cells at 0) callText))
     where
-      go : (b t : Bool) → keyRead (cond b (cond t (key.Word (textOf (pairAt cells at .payload))) (key.Number (toZ w64 (pairAt cells at .payload)))) key.Not) ≡ b
+      go : (b t : Bool) → keyRead (cond b (cond t (key.Word (textOf (getD cells (at + 1) 0))) (key.Number (toZ w64 (getD cells (at + 1) 0)))) key.Not) ≡ b
       go true true = refl
       go true false = refl
       go false t = refl
 
   -- a pair and an entry: a name or a key, and a value behind it
-  pub pair-formed : (r : ReadText) → r ≡ nameAt area cells at
+  pub pair-formed : (r : ReadText) → r ≡ readName area (getD cells at 0) (getD cells (at + 1) 0)
       → (nameRead r && wellFormedArgument area (pairAt cells (at + valueWidth))) ≡ wellFormedPair area (readPair (drop at cells))
   unfolding wellFormedPair readPair pairAt
   pair-formed r e = rw (drop-drop valueWidth at cells) (ap (λ b. b && wellFormedArgument area (readValue (drop (at + valueWidth) cells))) (name-formed r e))
 
-  pub entry-formed : (r : ReadKey) → r ≡ keyAt area cells at
+  pub entry-formed : (r : ReadKey) → r ≡ readKey area (getD cells at 0) (getD cells (at + 1) 0)
       → (keyRead r && wellFormedArgument area (pairAt cells (at + valueWidth))) ≡ wellFormedEntry area (readPair (drop at cells))
   unfolding wellFormedEntry readPair pairAt
   entry-formed r e = rw (drop-drop valueWidth at cells) (ap (λ b. b && wellFormedArgument area (readValue (drop (at + valueWidth) cells))) (key-formed r e))

@@ -12,17 +12,16 @@ use lib.Seq.{drop-drop, getD-set-same, getD-set-other}
 use borrow.Author.Tests.{eqb-true, eqb-false, eq-eqb, ne-eqb}
 use Rattle.rules.specs.Listing.{all}
 use Rattle.rules.specs.Cells.{readEach}
-use Rattle.rules.specs.Text.{textIn, sameBytes, among}
+use Rattle.rules.specs.Text.{textIn, bytesAt, inside, sameBytes, among}
 use Rattle.rules.specs.Value.{Value, callText, wellFormedKey}
 use Rattle.rules.specs.CallRecord.{Pair, pairWidth, readPair, Key, word, number, keyIn, namedIn}
 use Rattle.rules.specs.CallQuestions.{sameKey}
 use Rattle.rules.proofs.LawsListing.{and-left, and-right, and-both, and-no-left, and-no-right, not-of, all-imp}
 use Rattle.rules.proofs.LawsText.{sameBytes-eq}
-use Rattle.cells.specs.Text.{partAt}
 use Rattle.calls.specs.Runs.{pairsAt, Formed, keysOf, namesOf, newKey}
 use Rattle.calls.specs.Slots.{slots, slotOf, keySlot}
 use Rattle.calls.proofs.LawsEach.{each-next, formed-first, formed-next}
-use Rattle.calls.proofs.LawsKeys.{text-part, key-text, among-first}
+use Rattle.calls.proofs.LawsKeys.{text-inside, key-text, among-first}
 
 -- ---- slots
 
@@ -36,12 +35,17 @@ keySlot-below (word t) = slot-below (t .bytes)
 keySlot-below (number n) = omega arith
 
 -- the slot of a key by the kind and the payload that were read
-pub slot-word : (area : List ℕ) (v : Value) (bytes : List ℕ) (kind : ℕ) → kind ≡ v .kind → kind ≡ 6 → wellFormedKey area v ≡ true → bytes ≡ partAt area (v .payload)
-    → slotOf bytes ≡ keySlot (keyIn area v)
-unfolding keyIn textIn callText
-slot-word area v bytes kind k six e b =
-    let text : eqb (v .kind) 6 ≡ true = eq-eqb (v .kind) 6 (sym k ∙ six) in
-    rw (text, b, text-part 0 area (v .payload) (key-text area v text e))
+module _ (area : List ℕ) (v : Value) (kind payload : ℕ) (k : kind ≡ v .kind) (p : payload ≡ v .payload) (six : kind ≡ 6) (e : wellFormedKey area v ≡ true) where
+  is-text : eqb (v .kind) 6 ≡ true
+  is-text = eq-eqb (v .kind) 6 (sym k ∙ six)
+
+  pub word-inside : inside area payload ≡ true
+  unfolding callText
+  word-inside = rw p (text-inside 0 area (v .payload) (key-text area v is-text e))
+
+  pub slot-word : slotOf (bytesAt area payload) ≡ keySlot (keyIn area v)
+  unfolding keyIn textIn callText
+  slot-word = rw (is-text, p)
 
 pub slot-number : (area : List ℕ) (v : Value) (kind payload : ℕ) → kind ≡ v .kind → payload ≡ v .payload → (kind ≡ 6 → ⊥) → payload % 929 ≡ keySlot (keyIn area v)
 unfolding keyIn callText slots

@@ -3,15 +3,15 @@
 use mathlib.Core.List.{List}
 use Prim.Native.Nat.{ℕ, _%_}
 use Rattle.rules.specs.CallRecord.{Key, word, number}
-use Rattle.cells.specs.Text.{keyOf}
+use Rattle.cells.specs.Text.{lastKey}
 
 -- how many slots there are
 unfoldable pub slots : ℕ
 slots = 929
 
--- by the key of the text
+-- by the last eight bytes of the text
 unfoldable pub slotOf : List ℕ → ℕ
-slotOf bytes = keyOf bytes % slots
+slotOf bytes = lastKey bytes % slots
 
 abbrev pub keySlot : Key → ℕ
 keySlot (word t) = slotOf (t .bytes)

@@ -7,9 +7,9 @@ use crate::slot::SLOTS;
 use crate::slot::key_slot;
 use crate::slot::name_slot;
 use cells::record::key_at;
-use cells::record::pair_at;
 use cells::text::part;
 use cells::text::same;
+use cells::text::same_text;
 use cells::value::ReadKey;
 ghost use mathlib.Core.Path.{_≡_};
 ghost use mathlib.Core.Bool.{true, false, not};
@@ -157,7 +157,11 @@ fn same_name(cells: &[u64], area: &[u8], a: usize, b: usize) -> bool
     requires { ⌜ (wellFormedName (now area) (pairAt (now cells) a) ≡ true) × (wellFormedName (now area) (pairAt (now cells) b) ≡ true) ⌝ }
     ensures { λ r. ⌜ r ≡ sameBytes (nameThere (now (area .entry)) (now (cells .entry)) a) (nameThere (now (area .entry)) (now (cells .entry)) b) ⌝ }
 {
-    let x = pair_at(cells, a);
-    let y = pair_at(cells, b);
-    same(part(area, x.payload), part(area, y.payload))
+    let x = cells[a + 1];
+    let y = cells[b + 1];
+    // Most names are told apart by their lengths.
+    if x % 256 != y % 256 {
+        return false;
+    }
+    same_text(area, x, area, y)
 }

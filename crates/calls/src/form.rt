@@ -8,12 +8,12 @@ use crate::head::few;
 use crate::head::items_from;
 use crate::head::named_from;
 use crate::head::read_head;
-use cells::record::key_at;
-use cells::record::name_at;
-use cells::record::value_at;
 use cells::text::ReadText;
 use cells::value::ReadKey;
 use cells::value::ReadValue;
+use cells::value::read_argument;
+use cells::value::read_key;
+use cells::value::read_name;
 ghost use mathlib.Core.Path.{_≡_};
 ghost use mathlib.Core.Bool.{true};
 ghost use Prim.Native.Nat.{_+_, _*_, _≤_};
@@ -129,9 +129,10 @@ fn entries_formed(cells: &[u64], area: &[u8], from: usize, count: usize) -> bool
 }
 
 fn value_formed(cells: &[u64], area: &[u8], at: usize) -> bool
+    requires { ⌜ at + valueWidth ≤ length (now cells) ⌝ }
     ensures { λ r. ⌜ r ≡ wellFormedArgument (now (area .entry)) (pairAt (now (cells .entry)) at) ⌝ }
 {
-    match value_at(area, cells, at) {
+    match read_argument(area, cells[at], cells[at + 1]) {
         ReadValue::Is(_) => true,
         ReadValue::Not => false,
     }
@@ -142,7 +143,7 @@ fn pair_formed(cells: &[u64], area: &[u8], at: usize) -> bool
     requires { ⌜ at + pairWidth ≤ length (now cells) ⌝ }
     ensures { λ r. ⌜ r ≡ wellFormedPair (now (area .entry)) (readPair (drop at (now (cells .entry)))) ⌝ }
 {
-    match name_at(area, cells, at) {
+    match read_name(area, cells[at], cells[at + 1]) {
         ReadText::Is(_) => value_formed(cells, area, at + VALUE),
         ReadText::Not => false,
     }
@@ -153,7 +154,7 @@ fn entry_formed(cells: &[u64], area: &[u8], at: usize) -> bool
     requires { ⌜ at + pairWidth ≤ length (now cells) ⌝ }
     ensures { λ r. ⌜ r ≡ wellFormedEntry (now (area .entry)) (readPair (drop at (now (cells .entry)))) ⌝ }
 {
-    match key_at(area, cells, at) {
+    match read_key(area, cells[at], cells[at + 1]) {
         ReadKey::Word(_) => value_formed(cells, area, at + VALUE),
         ReadKey::Number(_) => value_formed(cells, area, at + VALUE),
         ReadKey::Not => false,

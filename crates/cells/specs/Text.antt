@@ -1,10 +1,10 @@
 -- A text of the code (01, texts), what reading one answers, and the key of a text.
-use mathlib.Core.Bool.{cond}
-use mathlib.Core.List.{List, []}
-use Prim.Native.Nat.{ℕ, _+_, _-_, _*_, _/_}
-use lib.Dec.{ltb}
-use lib.ListN.{length, getD}
-use Rattle.rules.specs.Text.{startOf, sizeOf, isText, inside, bytesAt}
+use mathlib.Core.Path.{_≡_}
+use mathlib.Core.Bool.{true, cond}
+use mathlib.Core.List.{List, [], _∷_}
+use Prim.Native.Nat.{ℕ, _+_, _-_, _*_, _<_, _≤_}
+use lib.ListN.{length, take, drop, getD}
+use Rattle.rules.specs.Text.{startOf, sizeOf, isText, inside, bytesAt, sameBytes}
 use Rattle.cells.specs.declared.text.Text.{Text}
 use Rattle.cells.specs.declared.text.ReadText.{ReadText}
 use Rattle.cells.specs.declared.text.ReadText.the-variants.{Is, Not}
@@ -21,8 +21,33 @@ readText least area payload = cond (isText least area payload) (Is (textOf paylo
 unfoldable pub partAt : List ℕ → ℕ → List ℕ
 partAt area payload = cond (inside area payload) (bytesAt area payload) []
 
--- four bytes of a text as one number, the first, the middle one and the last two: texts that differ here need not be compared byte by byte
+-- the first eight bytes of a text as one number, most significant first: texts that differ here need not be compared byte by byte
+abbrev pub keyFrom : ℕ → List ℕ → ℕ
+keyFrom k [] = k
+keyFrom k (b ∷ bs) = keyFrom (k * 256 + b) bs
+
 unfoldable pub keyOf : List ℕ → ℕ
-keyOf bytes =
-    cond (ltb (length bytes) 2) (getD bytes 0 0)
-    ((getD bytes 0 0 * 256 + getD bytes (length bytes / 2) 0) * 65536 + (getD bytes (length bytes - 2) 0 * 256 + getD bytes (length bytes - 1) 0))
+keyOf bytes = keyFrom 0 (take 8 bytes)
+
+-- the same of its last eight bytes
+unfoldable pub lastKey : List ℕ → ℕ
+lastKey bytes = keyFrom 0 (drop (length bytes - 8) bytes)
+
+-- the number of the first eight bytes, which are bytes
+pub record IsWord (bytes : List ℕ) (word : ℕ) : Type 0 where
+  pub key : word ≡ keyOf bytes
+  pub byte : (j : ℕ) → getD bytes j 0 < 256
+
+-- the text of a payload has `size` bytes, one to eight, and its area has eight where it starts
+pub record Short (area : List ℕ) (payload size : ℕ) : Type 0 where
+  pub sized : sizeOf payload ≡ size
+  pub some : 1 ≤ size
+  pub few : size ≤ 8
+  pub low : startOf payload ≤ 65535
+  pub room : startOf payload + 8 ≤ length area
+
+-- two texts inside their areas that have the same bytes
+pub record ShortSame (a : List ℕ) (x : ℕ) (b : List ℕ) (y : ℕ) : Type 0 where
+  pub one : inside a x ≡ true
+  pub other : inside b y ≡ true
+  pub same : sameBytes (bytesAt a x) (bytesAt b y) ≡ true

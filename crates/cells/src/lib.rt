@@ -2,6 +2,7 @@
 // record, and output into lent cells.
 
 pub mod answer;
+pub mod key;
 pub mod out;
 pub mod record;
 pub mod text;

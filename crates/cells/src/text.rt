@@ -79,19 +79,25 @@ pub fn same(a: &[u8], b: &[u8]) -> bool
     true
 }
 
-// Four bytes of a text as one number, the first, the middle one and the last two: most texts that differ are told apart by it, and it costs the
-// same for texts of any length.
+// Are the texts of two payloads equal, each in its area?
+pub fn same_text(a: &[u8], x: u64, b: &[u8], y: u64) -> bool
+    ensures { λ r. ⌜ r ≡ sameBytes (partAt (now (a .entry)) x) (partAt (now (b .entry)) y) ⌝ }
+{
+    same(part(a, x), part(b, y))
+}
+
+// The first bytes of a text as one number, so that most texts that differ are told apart by one comparison.
 pub fn key_of(bytes: &[u8]) -> u64
     ensures { λ r. ⌜ r ≡ keyOf (now (bytes .entry)) ⌝ }
 {
-    let n = bytes.len();
-    if n == 0 {
-        return 0;
+    let mut key: u64 = 0;
+    let mut i = 0;
+    while i < bytes.len() {
+        if i == 8 {
+            return key;
+        }
+        key = key * 256 + (bytes[i] as u64);
+        i += 1;
     }
-    if n == 1 {
-        return bytes[0] as u64;
-    }
-    let front = (bytes[0] as u64) * 256 + (bytes[n / 2] as u64);
-    let back = (bytes[n - 2] as u64) * 256 + (bytes[n - 1] as u64);
-    front * 65536 + back
+    key
 }

@@ -13,7 +13,7 @@ use cells::text::part;
 use cells::text::same;
 use cells::value::ReadKey;
 use lookup::Finding;
-use lookup::find_near;
+use lookup::find_from;
 ghost use mathlib.Core.Path.{_≡_};
 ghost use Rattle.rules.specs.Text.{among};
 ghost use Rattle.rules.specs.Binding.{textsOf};
@@ -157,7 +157,7 @@ fn word_at<'a>(
     ensures { λ r. ⌜ r ≡ wordIn (now (spec .entry)) (now (codes .entry)) (now (styles .entry)) (now (names .entry)) len (now (area .entry)) (now (cells .entry)) next (now (sources .entry)) (now (rest .entry)) count payload ⌝ }
 {
     let name = part(area, payload);
-    let found = find_near(spec, codes, styles, names, len, near, name);
+    let found = find_from(spec, codes, styles, names, len, near, name);
     if is_taken(found, cells, area, next, sources, rest, count, name) {
         return Entered::Repeated(payload);
     }

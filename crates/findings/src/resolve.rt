@@ -3,7 +3,6 @@
 // Reworked from starlark 0.14.2, src/eval/runtime/params/spec.rs (collect_slow), Apache-2.0.
 use builder::params::CAPACITY;
 use cells::record::pair_at;
-use cells::text::part;
 use lookup::Finding;
 use lookup::find_near;
 ghost use mathlib.Core.Path.{_≡_};
@@ -29,15 +28,7 @@ pub fn found_at<'a>(
     ensures { λ r. ⌜ r ≡ foundIn (now (spec .entry)) (now (codes .entry)) (now (styles .entry)) (now (names .entry)) len (now (area .entry)) (now (cells .entry)) pair ⌝ }
 {
     let key = pair_at(cells, pair);
-    find_near(
-        spec,
-        codes,
-        styles,
-        names,
-        len,
-        near,
-        part(area, key.payload),
-    )
+    find_near(spec, codes, styles, names, len, near, area, key.payload)
 }
 
 // The pair's value fills the slot that is found, or the pair joins the remainder. How many pairs the remainder then has.

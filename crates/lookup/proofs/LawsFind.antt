@@ -13,6 +13,7 @@ use lib.Seq.{length-take-le, getD-take, getD-drop}
 use borrow.Author.Tests.{leb-true, le-leb, lt-leb}
 use Rattle.rules.specs.Text.{sameBytes, bytesAt, inside, startOf, sizeOf}
 use Rattle.rules.proofs.LawsListing.{and-right}
+use Rattle.cells.specs.Text.{partAt, ShortSame}
 use Rattle.cells.proofs.LawsText.{sameBytes-length, sameBytes-differs, sameBytes-next}
 use Rattle.builder.specs.Params.{mayBeNamed}
 use Rattle.lookup.specs.declared.Finding.the-variants.{At, Unknown}
@@ -109,6 +110,13 @@ module _ (area : List ℕ) (name : ℕ) where
   inside-both : name / 256 ≤ 65535 → name / 256 + name % 256 ≤ length area → inside area name ≡ true
   unfolding inside startOf sizeOf
   inside-both s e = rw (le-leb (name / 256) 65535 s, le-leb (name / 256 + name % 256) (length area) e)
+
+-- a nameable candidate that is known to have the name of a payload in another area fits it
+pub fits-short
+    : (area : List ℕ) (code style name : ℕ) (call : List ℕ) (payload : ℕ) → mayBeNamed code style ≡ true → ShortSame call payload area name
+    → fits area (partAt call payload) code style name ≡ true
+unfolding fits partAt
+fits-short area code style name call payload m s = rw (m, s .other, s .one) (s .same)
 
 module _ (area bytes : List ℕ) (code style name : ℕ) where
   pub fits-style : mayBeNamed code style ≡ false → fits area bytes code style name ≡ false

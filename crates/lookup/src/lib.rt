@@ -3,8 +3,12 @@
 use builder::params::CAPACITY;
 use builder::params::nameable;
 use builder::spec::ParametersSpec;
+use cells::key::short_same;
+use cells::text::part;
 ghost use mathlib.Core.Path.{_≡_};
-ghost use Prim.Native.Nat.{min, _-_, _≤_};
+ghost use mathlib.Core.Bool.{true};
+ghost use Prim.Native.Nat.{min, _-_, _<_, _≤_};
+ghost use Rattle.cells.specs.Text.{partAt};
 ghost use Rattle.lookup.specs.Lookup.{fitsAt, firstAt, findIn, findAmong, OneFits};
 
 pub enum Finding {
@@ -41,9 +45,52 @@ pub fn find<'a, 'b>(
     search(area, codes, styles, names, 0, held(len), name)
 }
 
-// The same where no two parameters have this name, with a guess: the candidates from `near` on are tried first. Calls mostly name parameters
-// in the list's order, and then the one behind the last that was found is the one.
+// The same where no two parameters have this name, the text of a payload in the call's area, with a guess: the candidate at `near` is tried
+// first. Calls mostly name parameters in the list's order, and then the one behind the last that was found is the one.
 pub fn find_near<'a, 'b>(
+    area: &'a [u8],
+    codes: &'a [u8; CAPACITY],
+    styles: &'a [u8; CAPACITY],
+    names: &'a [u64; CAPACITY],
+    len: usize,
+    near: usize,
+    call: &'b [u8],
+    payload: u64,
+) -> Finding
+    requires { ⌜ OneFits (now area) (now codes) (now styles) (now names) len (partAt (now call) payload) ⌝ }
+    ensures { λ r. ⌜ r ≡ findIn (now (area .entry)) (now (codes .entry)) (now (styles .entry)) (now (names .entry)) len (partAt (now (call .entry)) payload) ⌝ }
+{
+    if fits(area, codes, styles, names, len, near, call, payload) {
+        return Finding::At(near);
+    }
+    find_from(area, codes, styles, names, len, near, part(call, payload))
+}
+
+// Is the candidate at an index known by one comparison to have this name, the text of a payload in the call's area? No says nothing: a guess
+// that is not recognised costs time and no more.
+fn fits<'a, 'b>(
+    area: &'a [u8],
+    codes: &'a [u8; CAPACITY],
+    styles: &'a [u8; CAPACITY],
+    names: &'a [u64; CAPACITY],
+    len: usize,
+    at: usize,
+    call: &'b [u8],
+    payload: u64,
+) -> bool
+    ensures { λ r. ⌜ (r ≡ true → (at < min len 64) × (fitsAt (now (area .entry)) (now (codes .entry)) (now (styles .entry)) (now (names .entry)) (partAt (now (call .entry)) payload) at ≡ true)) ⌝ }
+{
+    if held(len) <= at {
+        return false;
+    }
+    if !nameable(codes[at], styles[at]) {
+        return false;
+    }
+    short_same(call, payload, area, names[at])
+}
+
+// The same of a name that is lent, by the search: the candidates from `near` on first, and then those before it.
+pub fn find_from<'a, 'b>(
     area: &'a [u8],
     codes: &'a [u8; CAPACITY],
     styles: &'a [u8; CAPACITY],

@@ -1,7 +1,7 @@
 -- Laws of the question whether some cells are a prepared list, in this order: what a right row gives; a loop over the rows; a loop over the
 -- names; the whole. Assumes nothing.
 use mathlib.Core.Path.{_≡_, refl, sym, ap, _∙_}
-use mathlib.Core.Bool.{Bool, true, false, not, _&&_, _||_}
+use mathlib.Core.Bool.{Bool, true, false, not, _&&_, _||_, false≢true}
 use mathlib.Core.List.{List, []}
 use Prim.Native.Nat.{ℕ, zero, suc, _+_, _-_, _*_, _<_, _≤_}
 use native.Mathlib.Decide.{decLe}
@@ -9,21 +9,34 @@ use native.Mathlib.Omega.{arith}
 use lib.Dec.{ltb, leb, eqb}
 use lib.ListN.{length, getD}
 use borrow.Author.Tests.{ltb-true, eqb-true, le-leb, lt-leb, not-true, not-false}
-use Rattle.rules.specs.Text.{bytesAt, isText}
-use Rattle.rules.specs.Parameters.{Parameter, nameable, act, actOf, mayStand, nextStyle, rank}
-use Rattle.rules.specs.ParameterQuestions.{stepName, usesRight}
+use Rattle.rules.specs.Text.{bytesAt, isText, inside}
+use Rattle.rules.specs.Value.{noValue}
+use Rattle.rules.specs.Parameters.{Parameter, nameable, required, optional, defaulted, args, kwargs, Act, adds, slash, bareStar, unknownCode, act, actOf, mayStand, nextStyle, rank, plain, takesName}
+use Rattle.rules.specs.ParameterQuestions.{hasName, stepName, usesRight}
 use Rattle.rules.specs.Lookup.{known}
 use Rattle.rules.specs.Passed.{namesApart}
 use Rattle.rules.proofs.LawsListing.{and-left, and-right}
 use Rattle.cells.specs.Listed.{listed}
 use Rattle.cells.proofs.LawsListed.{listed-next, listed-end, listed-more}
-use Rattle.builder.specs.Params.{styleFor}
+use Rattle.builder.specs.Params.{styleFor, kindFor, mayBeNamed}
+use Rattle.builder.proofs.LawsParams.{plain-any}
+use Rattle.calls.proofs.LawsKeys.{text-inside}
 use Rattle.cells.specs.Text.{keyOf}
 use Rattle.prepared.specs.Prepared.{Row, addsOne, rowRight, rowsRight, isPrepared, preparedLength, frontWidth, rowWidth}
 use Rattle.prepared.specs.Rows.{rowAt, paramAt, stands, Keyed}
 use Rattle.prepared.proofs.LawsRows.{rows-listed, list-listed}
 
 -- ---- a right row
+
+plain-named : (a : Act) → plain (kindFor a) ≡ true → hasName a ≡ true
+plain-named (adds required) e = refl
+plain-named (adds optional) e = refl
+plain-named (adds (defaulted v)) e = refl
+plain-named (adds args) e = absurd (false≢true e)
+plain-named (adds kwargs) e = absurd (false≢true e)
+plain-named slash e = absurd (false≢true e)
+plain-named bareStar e = absurd (false≢true e)
+plain-named unknownCode e = absurd (false≢true e)
 
 module _ (area : List ℕ) (r : Row) (t : rowRight area r ≡ true) where
   abbrev standing : Bool
@@ -56,6 +69,13 @@ module _ (area : List ℕ) (r : Row) (t : rowRight area r ≡ true) where
       ltb-true (r .style) 3
       (and-right (addsOne (actOf (r .step .code) (r .step .default))) (ltb (r .style) 3)
       (and-left (addsOne (actOf (r .step .code) (r .step .default)) && ltb (r .style) 3) (mayStand (styleFor (r .style)) (actOf (r .step .code) (r .step .default))) right-stands))
+
+  -- a row that can be named has a name inside the area
+  pub right-inside : mayBeNamed (r .step .code) (r .style) ≡ true → inside area (r .step .name) ≡ true
+  unfolding stepName act mayBeNamed
+  right-inside m =
+      text-inside 1 area (r .step .name)
+      (rw (plain-named (actOf (r .step .code) (r .step .default)) (plain-any (r .step .code) (r .step .default) noValue ∙ and-left _ (takesName (styleFor (r .style))) m)) at right-name)
 
 -- ---- a loop over the rows: what is left to ask from row i on
 
@@ -104,10 +124,14 @@ each-right area cells least i (suc n) t j l u = split (decLe (suc i) j) (each-ri
 
 pub rows-keyed : (area cells : List ℕ) (n : ℕ) → 2 + 6 * n ≤ length cells → rowsRight area 0 (listed (rowAt cells) 0 n) ≡ true → Keyed area cells n
 rows-keyed area cells n h t =
-    record { long = h; keys = λ j u. right-key area (rowAt cells j) (each-right area cells 0 0 n t j (omega arith) (omega arith)) }
+    record {
+      long = h;
+      named-inside = λ j u. right-inside area (rowAt cells j) (each-right area cells 0 0 n t j (omega arith) (omega arith));
+      keys = λ j u. right-key area (rowAt cells j) (each-right area cells 0 0 n t j (omega arith) (omega arith));
+    }
 
 pub keyed-below : (area cells : List ℕ) (n i : ℕ) → Keyed area cells n → i < n → Keyed area cells (i + 1)
-keyed-below area cells n i k h = record { long = omega (arith, k .long); keys = λ j u. k .keys j (omega arith) }
+keyed-below area cells n i k h = record { long = omega (arith, k .long); named-inside = λ j u. k .named-inside j (omega arith); keys = λ j u. k .keys j (omega arith) }
 
 -- ---- a loop over the names: those from index i on against all before them
 

@@ -1,7 +1,7 @@
 -- Laws of loading a prepared list, in this order: which rows are counted, by code and style; counts and first indices after one more row;
 -- a column after one more store; the columns as a list; columns that hold the rows. Assumes nothing.
 use mathlib.Core.Path.{_≡_, refl, sym, ap, _∙_}
-use mathlib.Core.Bool.{Bool, true, false, cond, _||_}
+use mathlib.Core.Bool.{Bool, true, false, cond, _||_, false≢true}
 use mathlib.Core.List.{List}
 use Prim.Native.Nat.{ℕ, zero, suc, _+_, _*_, _<_, _≤_}
 use native.Mathlib.Nat.{zero-add}
@@ -101,6 +101,24 @@ module _ (code : ℕ) where
       go : (b : Bool) → eqb code 6 ≡ b → true ≡ (b || restOfNames code)
       go true e = refl
       go false e = rest-4 l (eqb-false code 6 e)
+
+-- a row that takes no rest is counted by its style, and one that does is not counted
+module _ (code style : ℕ) {b : Bool} (e : b ≡ (eqb code 6 || restOfNames code)) where
+  pub counts-plain : b ≡ false → (ltb style 1 ≡ onlyByPosition code style) × (ltb style 2 ≡ byPosition code style)
+  counts-plain f = split (decLe 4 code) (decLe 1 code)
+    where
+      split : Dec (4 ≤ code) → Dec (1 ≤ code) → (ltb style 1 ≡ onlyByPosition code style) × (ltb style 2 ≡ byPosition code style)
+      split (yes l) d = absurd (false≢true (sym f ∙ e ∙ sym (either-4 code l)))
+      split (no l) (yes g) = (only-3 code style g (omega arith), by-3 code style g (omega arith))
+      split (no l) (no g) = absurd (false≢true (sym f ∙ e ∙ sym (either-0 code (omega arith))))
+
+  pub counts-rest : b ≡ true → (false ≡ onlyByPosition code style) × (false ≡ byPosition code style)
+  counts-rest t = split (decLe 4 code) (decLe 1 code)
+    where
+      split : Dec (4 ≤ code) → Dec (1 ≤ code) → (false ≡ onlyByPosition code style) × (false ≡ byPosition code style)
+      split (yes l) d = (only-4 code style l, by-4 code style l)
+      split (no l) (yes g) = absurd (false≢true (either-3 code g (omega arith) ∙ sym e ∙ t))
+      split (no l) (no g) = (only-0 code style (omega arith), by-0 code style (omega arith))
 
 kwargs-any : (code : ℕ) (v w : Value) → isKwargs (kindFor (actOf code v)) ≡ isKwargs (kindFor (actOf code w))
 kwargs-any zero v w = refl

@@ -13,7 +13,7 @@ use lib.Dec.{ltb, eqb}
 use lib.ListN.{length, drop, take, getD, length-take, drop-of-length-le}
 use lib.Seq.{drop-drop, drop-cons, getD-drop, getD-take}
 use native.Mathlib.Decide.{decLe}
-use borrow.Author.Tests.{le-ltb, not-true, not-false}
+use borrow.Author.Tests.{le-ltb, eqb-true, eqb-false, not-true, not-false}
 use Rattle.rules.specs.Cells.{readEach}
 use Rattle.rules.specs.Text.{textIn, bytesAt, sameBytes}
 use Rattle.rules.specs.Value.{Value, noValue, readValue}
@@ -117,19 +117,19 @@ module _ (code style : ℕ) (v : Value) where
   pub after-6 : code ≡ 6 → 2 ≡ rank (nextStyle (styleFor style) (actOf code v))
   after-6 e = rw e
 
-  pub after-7 : code ≡ 7 → 3 ≡ rank (nextStyle (styleFor style) (actOf code v))
-  after-7 e = rw e
-
-  pub after-3
-      : style < 3 → (code ≡ 6 → ⊥) → (code ≡ 7 → ⊥) → stands code style v ≡ true → style ≡ rank (nextStyle (styleFor style) (actOf code v))
-  after-3 h six seven t = split (decLe 4 code) (decLe 1 code)
+  pub after-other : 4 ≤ code → (code ≡ 6 → ⊥) → stands code style v ≡ true → 3 ≡ rank (nextStyle (styleFor style) (actOf code v))
+  after-other l six t = go (eqb code 7) refl
     where
-      split : Dec (4 ≤ code) → Dec (1 ≤ code) → style ≡ rank (nextStyle (styleFor style) (actOf code v))
-      split (yes l) d = absurd (never (stands-4 style v code l six seven ∙ t))
-      split (no l) (yes g) =
-          code-3 (λ n. style ≡ rank (nextStyle (styleFor style) (actOf n v))) (rank-number style h) (rank-number style h) (rank-number style h) code g
-          (omega arith)
-      split (no l) (no g) = absurd (never (stands-0 style v code (omega arith) ∙ t))
+      go : (b : Bool) → eqb code 7 ≡ b → 3 ≡ rank (nextStyle (styleFor style) (actOf code v))
+      go true e = rw (eqb-true code 7 e)
+      go false e = absurd (never (stands-4 style v code l six (eqb-false code 7 e) ∙ t))
+
+  pub after-3 : style < 3 → code < 4 → stands code style v ≡ true → style ≡ rank (nextStyle (styleFor style) (actOf code v))
+  after-3 h u t = split (decLe 1 code)
+    where
+      split : Dec (1 ≤ code) → style ≡ rank (nextStyle (styleFor style) (actOf code v))
+      split (yes l) = code-3 (λ n. style ≡ rank (nextStyle (styleFor style) (actOf n v))) (rank-number style h) (rank-number style h) (rank-number style h) code l u
+      split (no l) = absurd (never (stands-0 style v code (omega arith) ∙ t))
 
 -- ---- a row by itself: a answers where it stands, b its name, d its default and unused cells, k is its name's key
 
@@ -212,6 +212,9 @@ pub known-bytes
     → known qs (bytesAt area (rowAt cells i .step .name)) ≡ known qs bytes
 known-bytes area cells bytes i qs eb = ap (λ n. known qs (bytesAt area n)) (name-cell cells i) ∙ ap (known qs) (sym eb)
 
+pub may-be-named-cells : (cells : List ℕ) (i : ℕ) → mayBeNamed (rowAt cells i .step .code) (rowAt cells i .style) ≡ mayBeNamed (getD cells (2 + 6 * i) 0) (getD cells (2 + 6 * i + 1) 0)
+may-be-named-cells cells i = ap (λ (r : Row). mayBeNamed (r .step .code) (r .style)) (rowAt-cells cells i)
+
 pub nameable-cells : (area cells : List ℕ) (i : ℕ) → nameable (paramAt area cells i) ≡ mayBeNamed (getD cells (2 + 6 * i) 0) (getD cells (2 + 6 * i + 1) 0)
 unfolding paramAt
-nameable-cells area cells i = nameable-row area (rowAt cells i) ∙ ap (λ (r : Row). mayBeNamed (r .step .code) (r .style)) (rowAt-cells cells i)
+nameable-cells area cells i = nameable-row area (rowAt cells i) ∙ may-be-named-cells cells i

@@ -1,15 +1,15 @@
 -- The rows of a prepared list as the code reads and writes them, and what its functions need of the cells.
 use mathlib.Core.Path.{_≡_}
-use mathlib.Core.Bool.{Bool, _&&_}
+use mathlib.Core.Bool.{Bool, true, _&&_}
 use mathlib.Core.List.{List}
-use Prim.Native.Nat.{ℕ, _+_, _*_, _<_, _≤_}
+use Prim.Native.Nat.{ℕ, _+_, _*_, _%_, _<_, _≤_}
 use lib.Dec.{ltb}
 use lib.ListN.{length, drop, getD}
-use Rattle.rules.specs.Text.{bytesAt}
+use Rattle.rules.specs.Text.{bytesAt, inside}
 use Rattle.rules.specs.Value.{Value}
 use Rattle.rules.specs.Parameters.{Parameter, actOf, mayStand}
-use Rattle.builder.specs.Params.{styleFor}
-use Rattle.cells.specs.Text.{keyOf}
+use Rattle.builder.specs.Params.{styleFor, mayBeNamed}
+use Rattle.cells.specs.Text.{keyOf, lastKey}
 use Rattle.prepared.specs.Prepared.{Row, readRow, parameterOfRow, addsOne}
 use Rattle.prepared.specs.declared.row.Row.{Row as CodeRow}
 
@@ -40,9 +40,14 @@ pub record Narrow (cells : List ℕ) : Type 0 where
   pub code : (j : ℕ) → j < getD cells 0 0 → getD cells (2 + 6 * j) 0 < 256
   pub style : (j : ℕ) → j < getD cells 0 0 → getD cells (2 + 6 * j + 1) 0 < 256
 
--- each row's key is that of its name
+-- the slot of row j's name, by its last bytes
+unfoldable pub slotAt : List ℕ → List ℕ → ℕ → ℕ
+slotAt area cells j = lastKey (bytesAt area (rowAt cells j .step .name)) % 929
+
+-- each row's key is that of its name, and a name by which it can be named lies inside the area
 pub record Keyed (area cells : List ℕ) (n : ℕ) : Type 0 where
   pub long : 2 + 6 * n ≤ length cells
+  pub named-inside : (j : ℕ) → j < n → mayBeNamed (rowAt cells j .step .code) (rowAt cells j .style) ≡ true → inside area (rowAt cells j .step .name) ≡ true
   pub keys : (j : ℕ) → j < n → rowAt cells j .key ≡ keyOf (bytesAt area (rowAt cells j .step .name))
 
 -- a step with this code adds a parameter, and may do so under the style with this number

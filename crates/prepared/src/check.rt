@@ -11,9 +11,11 @@ use builder::params::CAPACITY;
 use builder::params::Step;
 use builder::params::bytes_at;
 use builder::params::may_be_named;
+use cells::key::last_key;
 use cells::record::cell;
 use cells::text::same;
 ghost use mathlib.Core.Path.{_≡_};
+ghost use mathlib.Core.Bool.{true};
 ghost use mathlib.Core.List.{[]};
 ghost use Prim.Native.Nat.{_+_, _*_, _≤_};
 ghost use lib.ListN.{length};
@@ -22,7 +24,8 @@ ghost use Rattle.rules.specs.Lookup.{names, known};
 ghost use Rattle.rules.specs.Passed.{namesApart};
 ghost use Rattle.cells.specs.Listed.{listed};
 ghost use Rattle.prepared.specs.Prepared.{isPrepared, rowsRight};
-ghost use Rattle.prepared.specs.Rows.{rowAt, paramAt, Keyed};
+ghost use Rattle.builder.specs.Params.{mayBeNamed};
+ghost use Rattle.prepared.specs.Rows.{rowAt, paramAt, slotAt, Keyed};
 
 // The head first, then the rows, and the names last: they are told apart by keys, which must be right.
 pub fn is_prepared(cells: &[u64], area: &[u8]) -> bool
@@ -79,11 +82,11 @@ fn rows_right(cells: &[u64], area: &[u8], n: usize) -> bool
     true
 }
 
-// How many slots there are for the keys of names, as in question 13: names that differ in two last digits alone have slots of their own.
+// How many slots there are for names, as in question 13.
 const SLOTS: usize = 929;
 
-// No nameable name comes twice. Equal names have equal keys and so one slot: a name whose slot is unused so far is new, and only another
-// one is compared with those before it.
+// No nameable name comes twice. Equal names have one slot: a name whose slot is unused so far is new, and only another one is compared with
+// those before it.
 fn names_apart(cells: &[u64], area: &[u8], n: usize) -> bool
     requires { ⌜ Keyed (now area) (now cells) n ⌝ }
     ensures { λ r. ⌜ r ≡ namesApart [] (listed (paramAt (now (area .entry)) (now (cells .entry))) 0 n) ⌝ }
@@ -93,7 +96,7 @@ fn names_apart(cells: &[u64], area: &[u8], n: usize) -> bool
     while i < n {
         let at = FRONT + ROW * i;
         if may_be_named(cells[at], cells[at + STYLE]) {
-            let slot = (cells[at + KEY] as usize) % SLOTS;
+            let slot = slot_at(cells, area, i);
             if used[slot] == 1 {
                 if known_before(cells, area, i) {
                     return false;
@@ -104,6 +107,19 @@ fn names_apart(cells: &[u64], area: &[u8], n: usize) -> bool
         i += 1;
     }
     true
+}
+
+// The slot of a nameable row's name, by its last bytes: those of a short name are its key.
+fn slot_at(cells: &[u64], area: &[u8], i: usize) -> usize
+    requires { ⌜ Keyed (now area) (now cells) (i + 1) × (mayBeNamed (rowAt (now cells) i .step .code) (rowAt (now cells) i .style) ≡ true) ⌝ }
+    ensures { λ r. ⌜ r ≡ slotAt (now (area .entry)) (now (cells .entry)) i ⌝ }
+{
+    let at = FRONT + ROW * i;
+    let name = cells[at + NAME];
+    if name % 256 <= 8 {
+        return (cells[at + KEY] as usize) % SLOTS;
+    }
+    (last_key(area, name) as usize) % SLOTS
 }
 
 // Is row i's name that of a nameable row before it? Equal names have equal keys, so only rows with its key are looked at further.

@@ -60,11 +60,12 @@ pub(crate) fn indices_in(cells: &[u64], n: usize) -> DefParamIndices
         let at = FRONT + ROW * i;
         let code = cells[at];
         let style = cells[at + STYLE];
-        only = counted(only, is_positional_only(code, style));
-        positional = counted(positional, is_positional(code, style));
         if takes_rest(code) {
             args = or_first(args, code == 6, i);
             kwargs = or_first(kwargs, is_kwargs(code), i);
+        } else {
+            only = counted(only, style < 1);
+            positional = counted(positional, style < 2);
         }
         i += 1;
     }
@@ -99,24 +100,6 @@ fn or_first(found: Index, yes: bool, i: usize) -> Index
             }
             Index::Absent
         }
-    }
-}
-
-fn is_positional(code: u64, style: u64) -> bool
-    ensures { λ r. ⌜ r ≡ byPosition code style ⌝ }
-{
-    match code {
-        1..=3 => style < 2,
-        _ => false,
-    }
-}
-
-fn is_positional_only(code: u64, style: u64) -> bool
-    ensures { λ r. ⌜ r ≡ onlyByPosition code style ⌝ }
-{
-    match code {
-        1..=3 => style < 1,
-        _ => false,
     }
 }
 

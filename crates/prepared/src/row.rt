@@ -1,6 +1,7 @@
 // A row of a prepared list: what is kept of one parameter, and what must hold of it by itself.
 use builder::params::Step;
 use builder::params::bytes_at;
+use cells::key::first_key;
 use cells::text;
 ghost use mathlib.Core.Path.{_≡_};
 ghost use mathlib.Core.Bool.{true};
@@ -56,19 +57,28 @@ pub(crate) fn row_at(cells: &[u64], i: usize) -> Row
     }
 }
 
-// The key of a name: most names that differ are told apart by one comparison.
+// The key of a name: most names that differ are told apart by one comparison. It is read in one go unless the area ends too soon.
 pub(crate) fn key_of(area: &[u8], name: u64) -> u64
     ensures { λ r. ⌜ r ≡ keyOf (bytesAt (now (area .entry)) name) ⌝ }
 {
+    let start = (name / 256) as usize;
+    if start + 8 <= area.len() {
+        return first_key(area, start, (name % 256) as usize);
+    }
     text::key_of(bytes_at(area, name))
 }
 
-// Does this code add a parameter, and may it stand under this style?
+// Does this code add a parameter, and may it stand under this style? Most rows are of parameters that have a name, so these are told first.
 fn may_stand(code: u64, style: u64) -> bool
     ensures { λ r. ⌜ ((v : Value) → r ≡ stands code style v) ⌝ }
 {
+    if code < 4 {
+        if code == 0 {
+            return false;
+        }
+        return style < 3;
+    }
     match code {
-        1..=3 => style < 3,
         6 => style < 2,
         7 => style < 3,
         _ => false,
@@ -80,10 +90,12 @@ pub(crate) fn style_after(code: u64, style: u64) -> u64
     requires { ⌜ style < 3 ⌝ }
     ensures { λ r. ⌜ ((v : Value) → stands code style v ≡ true → r ≡ rank (nextStyle (styleFor style) (actOf code v))) ⌝ }
 {
+    if code < 4 {
+        return style;
+    }
     match code {
         6 => 2,
-        7 => 3,
-        _ => style,
+        _ => 3,
     }
 }
 

@@ -1,51 +1,55 @@
--- `calls::differ::same_name` meets its contract: the bytes of each name are those of the part of the area.
+-- `calls::differ::same_name` meets its contract: a well-formed name's payload lies inside the cells, and names of different lengths differ.
+-- Otherwise the bytes of each name are those of the part of the area.
 -- Assumes nothing.
-use mathlib.Core.Path.{ap, ap₂, _∙_}
-use mathlib.Core.List.{List}
-use Prim.Native.Nat.{ℕ}
+use mathlib.Core.Path.{sym, ap₂, _∙_}
+use native.Mathlib.Omega.{arith}
 use borrow.Author.Needs.{needs}
 use Rattle.rules.specs.Text.{sameBytes}
-use Rattle.rules.specs.Value.{Value}
-use Rattle.cells.specs.Text.{partAt}
-use Rattle.calls.proofs.LawsKeys.{name-part}
+use Rattle.calls.proofs.LawsKeys.{name-within, name-bytes, names-apart}
 use Rattle.calls.proofs.differ.same_name.Statement.{statement}
 use Rattle.calls.proofs.differ.same_name.Tie as tie
 
-pair-at-requires : tie.Need-pair-at-requires
-pair-at-requires c κs = search needs
+add-x : tie.Need-add-x
+add-x c = let s = c .before .before in omega (arith, name-within _ _ (s .args .a) (s .pre .0))
 
-pair-at-requires-2 : tie.Need-pair-at-requires-2
-pair-at-requires-2 c κs = search needs
+mul-x : tie.Need-mul-x
+mul-x c = let s = c .before .before in omega (arith, name-within _ _ (s .args .a) (s .pre .0))
 
-part-requires : tie.Need-part-requires
-part-requires c κs = search needs
+shared-slice-read-x : tie.Need-shared-slice-read-x
+shared-slice-read-x c = let s = c .before .before .before in omega (arith, name-within _ _ (s .args .a) (s .pre .0))
 
-part-requires-2 : tie.Need-part-requires-2
-part-requires-2 c κs = search needs
+add-y : tie.Need-add-y
+add-y c = let s = c .before .before .before in omega (arith, name-within _ _ (s .args .b) (s .pre .1))
 
-same-requires : tie.Need-same-requires
-same-requires c κs = search needs
+mul-y : tie.Need-mul-y
+mul-y c = let s = c .before .before .before in omega (arith, name-within _ _ (s .args .b) (s .pre .1))
+
+shared-slice-read-y : tie.Need-shared-slice-read-y
+shared-slice-read-y c = let s = c .before .before .before .before in omega (arith, name-within _ _ (s .args .b) (s .pre .1))
 
 returns : tie.Need-returns
 returns c =
-    let q = c .before in
-    let p = q .before in
-    let y = p .before in
-    let x = y .before in
-    let s = x .before .before .before in
-    let payload : Value → List ℕ = λ v. partAt (s .args .area .now) (v .payload) in
-    c .same .ensures
-    ∙ ap₂ sameBytes
-    (p .part .ensures ∙ ap payload (x .pair-at .ensures) ∙ name-part _ _ (s .pre .0))
-    (q .part2 .ensures ∙ ap payload (y .pair-at2 .ensures) ∙ name-part _ _ (s .pre .1))
+    let s = c .before .before .before .before .before in
+    sym (names-apart _ _ (s .args .a) (s .args .b) (s .pre .0) (s .pre .1) (c .if1 .taken))
+
+same-text-requires : tie.Need-same-text-requires
+same-text-requires c κs = search needs
+
+returns-2 : tie.Need-returns-2
+returns-2 c =
+    let s = c .before .before .before .before .before .before in
+    c .same-text .ensures ∙ ap₂ sameBytes (name-bytes _ _ (s .args .a) (s .pre .0)) (name-bytes _ _ (s .args .b) (s .pre .1))
 
 pub same-name-spec : {M : Type 1} → statement M
 same-name-spec =
     tie.close
     (tie.spec
-    pair-at-requires
-    pair-at-requires-2
-    part-requires
-    part-requires-2
-    same-requires
-    returns)
+    add-x
+    mul-x
+    shared-slice-read-x
+    add-y
+    mul-y
+    shared-slice-read-y
+    returns
+    same-text-requires
+    returns-2)

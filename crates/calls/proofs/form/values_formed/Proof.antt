@@ -26,7 +26,8 @@ loop-holds : tie.Need-loop-holds Inv-loop μ-loop
 loop-holds c = (c .before .before .pre, refl)
 
 value-formed-requires : tie.Need-value-formed-requires Inv-loop μ-loop
-value-formed-requires c κs = search needs
+unfolding valueWidth
+value-formed-requires c κs = omega arith
 
 returns : tie.Need-returns Inv-loop μ-loop
 unfolding valueWidth pairAt

@@ -2,8 +2,7 @@
 -- Assumes nothing.
 use mathlib.Core.Path.{ap, _∙_}
 use Rattle.rules.specs.Value.{Value}
-use Rattle.cells.specs.Text.{partAt}
-use Rattle.calls.proofs.LawsSlots.{slot-word, slot-number}
+use Rattle.calls.proofs.LawsSlots.{word-inside, slot-word, slot-number}
 use borrow.Author.Needs.{needs}
 use Rattle.calls.proofs.slot.key_slot.Statement.{statement}
 use Rattle.calls.proofs.slot.key_slot.Tie as tie
@@ -11,21 +10,19 @@ use Rattle.calls.proofs.slot.key_slot.Tie as tie
 pair-at-requires : tie.Need-pair-at-requires
 pair-at-requires c κs = search needs
 
-part-requires : tie.Need-part-requires
-part-requires c κs = search needs
-
 slot-of-requires : tie.Need-slot-of-requires
-slot-of-requires c κs = search needs
+slot-of-requires c κs =
+    let x = c .before .before in
+    let s = x .before .before .before in
+    word-inside (s .args .area .now) _ _ _ (ap (λ (v : Value). v .kind) (x .pair-at .ensures)) (ap (λ (v : Value). v .payload) (x .pair-at .ensures)) (c .if1 .taken) (s .pre)
 
 returns : tie.Need-returns
 returns c =
-    let p = c .before in
-    let t = p .before in
+    let t = c .before in
     let x = t .before .before in
     let s = x .before .before .before in
     c .slot-of .ensures
-    ∙ slot-word (s .args .area .now) _ _ _ (ap (λ (v : Value). v .kind) (x .pair-at .ensures)) (t .if1 .taken) (s .pre)
-    (p .part .ensures ∙ ap (λ (v : Value). partAt (s .args .area .now) (v .payload)) (x .pair-at .ensures))
+    ∙ slot-word (s .args .area .now) _ _ _ (ap (λ (v : Value). v .kind) (x .pair-at .ensures)) (ap (λ (v : Value). v .payload) (x .pair-at .ensures)) (t .if1 .taken) (s .pre)
 
 returns-2 : tie.Need-returns-2
 returns-2 c =
@@ -33,5 +30,4 @@ returns-2 c =
     slot-number _ _ _ _ (ap (λ (v : Value). v .kind) (x .pair-at .ensures)) (ap (λ (v : Value). v .payload) (x .pair-at .ensures)) (c .if1 .left)
 
 pub key-slot-spec : {M : Type 1} → statement M
-key-slot-spec =
-    tie.close (tie.spec pair-at-requires part-requires slot-of-requires returns returns-2)
+key-slot-spec = tie.close (tie.spec pair-at-requires slot-of-requires returns returns-2)

@@ -1,4 +1,4 @@
--- `calls::slot::slot_of` meets its contract: the slot is the remainder of the text's key.
+-- `calls::slot::slot_of` meets its contract: the slot is the remainder of the text's last bytes.
 -- Assumes nothing.
 use mathlib.Core.Path.{ap}
 use Prim.Native.Nat.{_%_}
@@ -7,12 +7,12 @@ use Rattle.calls.specs.Slots.{slots, slotOf}
 use Rattle.calls.proofs.slot.slot_of.Statement.{statement}
 use Rattle.calls.proofs.slot.slot_of.Tie as tie
 
-key-of-requires : tie.Need-key-of-requires
-key-of-requires c κs = search needs
+last-key-requires : tie.Need-last-key-requires
+last-key-requires c κs = search needs
 
 returns : tie.Need-returns
 unfolding slotOf slots
-returns c = ap (λ key. key % 929) (c .key-of .ensures)
+returns c = ap (λ key. key % 929) (c .last-key .ensures)
 
 pub slot-of-spec : {M : Type 1} → statement M
-slot-of-spec = tie.close (tie.spec key-of-requires returns)
+slot-of-spec = tie.close (tie.spec last-key-requires returns)

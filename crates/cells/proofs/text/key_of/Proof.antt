@@ -1,121 +1,71 @@
--- `cells::text::key_of` meets its contract: a text of no byte, of one, and of more. The four bytes are below 256, so the key fits.
+-- `cells::text::key_of` meets its contract. The loop's invariant: the bytes so far, and what is left of the first eight, give the key.
 -- Assumes nothing.
-use mathlib.Core.Path.{sym}
-use Prim.Native.Nat.{_-_, _/_}
+use Prim.Native.Nat.{_<_, _-_}
 use native.Mathlib.Omega.{arith}
-use lib.ListN.{length, List·getD-eq-default}
-use borrow.Author.Tests.{lt-ltb, le-ltb}
-use Rattle.cells.specs.Text.{keyOf}
+use mathlib.Core.Logic.{inl, inr}
+use lib.ListN.{length}
 use borrow.Author.Needs.{needs}
+use Rattle.cells.proofs.LawsKey.{KeySoFar, key-start, key-room, key-next, key-end}
 use Rattle.cells.proofs.text.key_of.Statement.{statement}
 use Rattle.cells.proofs.text.key_of.Tie as tie
 
-returns : tie.Need-returns
-unfolding keyOf
-returns c =
-    let bytes = c .before .args .bytes .now in
-    rw (lt-ltb (length bytes) 2 (omega arith)) (sym (List·getD-eq-default bytes 0 {n = 0} (omega arith)))
+abbrev Inv-loop : tie.InvT-loop
+Inv-loop bytes key₀ i₀ key i = KeySoFar bytes key i
 
-shared-slice-read-result : tie.Need-shared-slice-read-result
-shared-slice-read-result c = search needs
+abbrev μ-loop : tie.MeasureT-loop
+μ-loop bytes key₀ i₀ key i = length bytes - i
 
-cast-result : tie.Need-cast-result
-cast-result c = omega (arith, c .shared-slice-known .given 0)
+loop-holds : tie.Need-loop-holds Inv-loop μ-loop
+loop-holds c = key-start _
 
-returns-2 : tie.Need-returns-2
-unfolding keyOf
-returns-2 c = rw (lt-ltb (length (c .before .before .before .args .bytes .now)) 2 (omega arith))
+returns : tie.Need-returns Inv-loop μ-loop
+returns c = let at = c .before .before .loop in key-end _ (at .key) (at .i) (at .inv) (inl (omega arith))
 
-shared-slice-read-front : tie.Need-shared-slice-read-front
-shared-slice-read-front c = search needs
+mul-key : tie.Need-mul-key Inv-loop μ-loop
+mul-key c =
+    let at = c .before .before .loop in
+    let h : at .i < 8 = omega (arith, at .inv .few, c .if1 .left) in
+    omega (arith, key-room _ (at .key) (at .i) (at .inv) h)
 
-cast-front : tie.Need-cast-front
-cast-front c = omega (arith, c .shared-slice-known2 .given 0)
+shared-slice-read-key : tie.Need-shared-slice-read-key Inv-loop μ-loop
+shared-slice-read-key c = search needs
 
-mul-front : tie.Need-mul-front
-mul-front c = omega (arith, c .shared-slice-known2 .given 0)
+cast-key : tie.Need-cast-key Inv-loop μ-loop
+cast-key c = omega (arith, c .shared-slice-known .given (c .before .before .before .loop .i))
 
-shared-slice-read-front-2 : tie.Need-shared-slice-read-front-2
-shared-slice-read-front-2 c = search needs
+add-key : tie.Need-add-key Inv-loop μ-loop
+add-key c =
+    let at = c .before .before .before .loop in
+    let h : at .i < 8 = omega (arith, at .inv .few, c .before .if1 .left) in
+    omega (arith, key-room _ (at .key) (at .i) (at .inv) h, c .shared-slice-known .given (at .i))
 
-cast-front-2 : tie.Need-cast-front-2
-cast-front-2 c =
-    let n = length (c .before .before .before .before .args .bytes .now) in
-    omega (arith, c .shared-slice-known3 .given (n / 2))
+add-i : tie.Need-add-i Inv-loop μ-loop
+add-i c = search needs
 
-add-front : tie.Need-add-front
-add-front c =
-    let n = length (c .before .before .before .before .args .bytes .now) in
-    omega (arith, c .shared-slice-known3 .given 0, c .shared-slice-known3 .given (n / 2))
+loop-less : tie.Need-loop-less Inv-loop μ-loop
+loop-less c = search needs
 
-sub-back : tie.Need-sub-back
-sub-back c = search needs
+loop-again : tie.Need-loop-again Inv-loop μ-loop
+loop-again c =
+    let at = c .before .before .before .loop in
+    key-next _ (at .key) (at .i) (at .inv) (c .before .before .loop-test .taken) (omega (arith, at .inv .few, c .before .if1 .left)) (omega (arith, c .shared-slice-known .given (at .i)))
 
-shared-slice-read-back : tie.Need-shared-slice-read-back
-shared-slice-read-back c = search needs
-
-cast-back : tie.Need-cast-back
-cast-back c =
-    let n = length (c .before .before .before .before .before .args .bytes .now) in
-    omega (arith, c .shared-slice-known4 .given (n - 2))
-
-mul-back : tie.Need-mul-back
-mul-back c =
-    let n = length (c .before .before .before .before .before .args .bytes .now) in
-    omega (arith, c .shared-slice-known4 .given (n - 2))
-
-sub-back-2 : tie.Need-sub-back-2
-sub-back-2 c = search needs
-
-shared-slice-read-back-2 : tie.Need-shared-slice-read-back-2
-shared-slice-read-back-2 c = search needs
-
-cast-back-2 : tie.Need-cast-back-2
-cast-back-2 c =
-    let n = length (c .before .before .before .before .before .before .args .bytes .now) in
-    omega (arith, c .shared-slice-known5 .given (n - 1))
-
-add-back : tie.Need-add-back
-add-back c =
-    let n = length (c .before .before .before .before .before .before .args .bytes .now) in
-    omega (arith, c .shared-slice-known5 .given (n - 2), c .shared-slice-known5 .given (n - 1))
-
-mul-result : tie.Need-mul-result
-mul-result c =
-    let n = length (c .before .before .before .before .before .before .args .bytes .now) in
-    omega (arith, c .shared-slice-known5 .given 0, c .shared-slice-known5 .given (n / 2))
-
-add-result : tie.Need-add-result
-add-result c =
-    let n = length (c .before .before .before .before .before .before .args .bytes .now) in
-    omega (arith, c .shared-slice-known5 .given 0, c .shared-slice-known5 .given (n / 2), c .shared-slice-known5 .given (n - 2), c .shared-slice-known5 .given (n - 1))
-
-returns-3 : tie.Need-returns-3
-unfolding keyOf
-returns-3 c = rw (le-ltb (length (c .before .before .before .before .before .before .args .bytes .now)) 2 (omega arith))
+returns-2 : tie.Need-returns-2 Inv-loop μ-loop
+returns-2 c = let at = c .before .loop in key-end _ (at .key) (at .i) (at .inv) (inr (c .loop-test .left))
 
 pub key-of-spec : {M : Type 1} → statement M
 key-of-spec =
     tie.close
     (tie.spec
+    Inv-loop
+    μ-loop
+    loop-holds
     returns
-    shared-slice-read-result
-    cast-result
-    returns-2
-    shared-slice-read-front
-    cast-front
-    mul-front
-    shared-slice-read-front-2
-    cast-front-2
-    add-front
-    sub-back
-    shared-slice-read-back
-    cast-back
-    mul-back
-    sub-back-2
-    shared-slice-read-back-2
-    cast-back-2
-    add-back
-    mul-result
-    add-result
-    returns-3)
+    mul-key
+    shared-slice-read-key
+    cast-key
+    add-key
+    add-i
+    loop-less
+    loop-again
+    returns-2)

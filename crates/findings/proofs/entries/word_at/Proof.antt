@@ -12,22 +12,22 @@ use Rattle.findings.proofs.entries.word_at.Tie as tie
 part-requires : tie.Need-part-requires
 part-requires c κs = search needs
 
-find-near-requires : tie.Need-find-near-requires
-find-near-requires c κs = c .before .before .before .before .pre .1 (c .part .result .now)
+find-from-requires : tie.Need-find-from-requires
+find-from-requires c κs = c .before .before .before .before .pre .1 (c .part .result .now)
 
 is-taken-requires : tie.Need-is-taken-requires
 is-taken-requires c κs =
     let a = c .before .before .before .before .before .args in (
       c .before .before .before .before .before .pre .0,
-      subst (Below 64) (sym (c .find-near .ensures)) (findIn-below (a .spec .now) (a .codes .now) (a .styles .now) (a .names .now) (a .len) (c .before .part .result .now)),
+      subst (Below 64) (sym (c .find-from .ensures)) (findIn-below (a .spec .now) (a .codes .now) (a .styles .now) (a .names .now) (a .len) (c .before .part .result .now)),
     )
 
 returns : tie.Need-returns
 unfolding wordIn
 returns c =
     let a = c .before .before .before .before .before .before .before .args in
-    let found : c .before .before .find-near .result ≡ findIn (a .spec .now) (a .codes .now) (a .styles .now) (a .names .now) (a .len) (partAt (a .area .now) (a .payload)) =
-    c .before .before .find-near .ensures ∙ ap (findIn (a .spec .now) (a .codes .now) (a .styles .now) (a .names .now) (a .len)) (c .before .before .before .part .ensures) in
+    let found : c .before .before .find-from .result ≡ findIn (a .spec .now) (a .codes .now) (a .styles .now) (a .names .now) (a .len) (partAt (a .area .now) (a .payload)) =
+    c .before .before .find-from .ensures ∙ ap (findIn (a .spec .now) (a .codes .now) (a .styles .now) (a .names .now) (a .len)) (c .before .before .before .part .ensures) in
     let tested =
     c .before .is-taken .ensures
     ∙ ap₂ (λ f n. takenBy f (a .next) (a .sources .now) (heldNames (a .area .now) (a .cells .now) (a .rest .now) (a .count)) n) found (c .before .before .before .part .ensures) in
@@ -37,8 +37,8 @@ returns-2 : tie.Need-returns-2
 unfolding wordIn
 returns-2 c =
     let a = c .before .before .before .before .before .before .before .args in
-    let found : c .before .before .find-near .result ≡ findIn (a .spec .now) (a .codes .now) (a .styles .now) (a .names .now) (a .len) (partAt (a .area .now) (a .payload)) =
-    c .before .before .find-near .ensures ∙ ap (findIn (a .spec .now) (a .codes .now) (a .styles .now) (a .names .now) (a .len)) (c .before .before .before .part .ensures) in
+    let found : c .before .before .find-from .result ≡ findIn (a .spec .now) (a .codes .now) (a .styles .now) (a .names .now) (a .len) (partAt (a .area .now) (a .payload)) =
+    c .before .before .find-from .ensures ∙ ap (findIn (a .spec .now) (a .codes .now) (a .styles .now) (a .names .now) (a .len)) (c .before .before .before .part .ensures) in
     let tested =
     c .before .is-taken .ensures
     ∙ ap₂ (λ f n. takenBy f (a .next) (a .sources .now) (heldNames (a .area .now) (a .cells .now) (a .rest .now) (a .count)) n) found (c .before .before .before .part .ensures) in
@@ -46,4 +46,4 @@ returns-2 c =
 
 pub word-at-spec : {M : Type 1} → statement M
 word-at-spec =
-    tie.close (tie.spec part-requires find-near-requires is-taken-requires returns returns-2)
+    tie.close (tie.spec part-requires find-from-requires is-taken-requires returns returns-2)

@@ -3,7 +3,7 @@
 use mathlib.Core.Path.{_≡_, refl, sym, _∙_}
 use mathlib.Core.Logic.{⊎-elim}
 use mathlib.Core.List.{[]}
-use Prim.Native.Nat.{_≤_, _-_}
+use Prim.Native.Nat.{_≤_, _<_, _-_}
 use native.Mathlib.Nat.{sub-zero}
 use borrow.Author.Needs.{needs}
 use Rattle.rules.specs.Text.{textIn}
@@ -13,8 +13,8 @@ use Rattle.builder.specs.Params.{parameterOf}
 use Rattle.prepared.specs.Prepared.{parameterOfRow}
 use Rattle.prepared.specs.Rows.{paramAt}
 use Rattle.prepared.proofs.LawsCheck.{keyed-below, apart-end, apart-twice, apart-new, apart-unnamed}
-use Rattle.prepared.proofs.LawsRows.{nameable-cells}
-use Rattle.prepared.proofs.LawsSlots.{Marked, marked-none, slot-new, slot-marked, slot-kept}
+use Rattle.prepared.proofs.LawsRows.{nameable-cells, may-be-named-cells}
+use Rattle.prepared.proofs.LawsSlots.{slot-below, Marked, marked-none, slot-new, slot-marked, slot-kept}
 use Rattle.prepared.proofs.check.names_apart.Statement.{statement}
 use Rattle.prepared.proofs.check.names_apart.Tie as tie
 
@@ -54,17 +54,25 @@ shared-slice-read-may-be-named-2 c = search needs
 may-be-named-requires : tie.Need-may-be-named-requires Inv-loop μ-loop
 may-be-named-requires c κs = search needs
 
-add-slot : tie.Need-add-slot Inv-loop μ-loop
-add-slot c = search needs
+slot-at-requires : tie.Need-slot-at-requires Inv-loop μ-loop
+slot-at-requires c κs =
+    let asked = c .before in
+    let inside = asked .before .before .before in
+    let start = inside .before .before .before .before in
+    let a = start .args in (
+      keyed-below _ _ (a .n) (inside .before .loop .i) (start .pre) (inside .loop-test .taken),
+      may-be-named-cells (a .cells .now) (inside .before .loop .i) ∙ sym (asked .may-be-named .ensures) ∙ c .if1 .taken,
+    )
 
-mul-slot : tie.Need-mul-slot Inv-loop μ-loop
-mul-slot c = search needs
-
-shared-slice-read-slot : tie.Need-shared-slice-read-slot Inv-loop μ-loop
-shared-slice-read-slot c = search needs
+-- the slot is one of the table's
+within : (c : tie.After-slot-at Inv-loop μ-loop) → c .slot-at .result < 929
+within c =
+    let inside = c .before .before .before .before .before in
+    let a = inside .before .before .before .before .args in
+    rw (c .slot-at .ensures) (slot-below (a .area .now) (a .cells .now) (inside .before .loop .i))
 
 array-read-if2 : tie.Need-array-read-if2 Inv-loop μ-loop
-array-read-if2 c = search needs
+array-read-if2 c = within c
 
 known-before-requires : tie.Need-known-before-requires Inv-loop μ-loop
 known-before-requires c κs =
@@ -85,7 +93,7 @@ returns c =
     (sym (c .before .known-before .ensures) ∙ c .if3 .taken)
 
 array-write-used : tie.Need-array-write-used Inv-loop μ-loop
-array-write-used c = search needs
+array-write-used c = within (c .before)
 
 add-i : tie.Need-add-i Inv-loop μ-loop
 add-i c = search needs
@@ -106,12 +114,12 @@ loop-again c =
       search needs,
       ⊎-elim
           (λ w. ⊎-elim (λ v. new (sym (v .1 .ensures) ∙ v .2 .left))
-          (λ v. new (slot-new (a .area .now) (a .cells .now) (at .used) (at .i) (at .inv .2) (keyed-below _ _ (a .n) (at .i) (start .pre) (inside .loop-test .taken)) (v .left)))
+          (λ v. new (slot-new (a .area .now) (a .cells .now) (at .used) (at .i) (at .inv .2) (w .1 .ensures) (v .left)))
           (w .2 .came))
           (λ w. apart-unnamed (paramAt (a .area .now) (a .cells .now)) (a .n) (at .i) (at .inv .1) (inside .loop-test .taken) (told ∙ w .0 .left))
           (c .if1 .came),
       ⊎-elim
-          (λ w. slot-marked (a .area .now) (a .cells .now) (at .used) (at .i) (at .inv .2) (w .3))
+          (λ w. slot-marked (a .area .now) (a .cells .now) (at .used) (at .i) (at .inv .2) (w .1 .ensures) (w .3))
           (λ w. slot-kept (a .area .now) (a .cells .now) (at .used) (at .i) (at .inv .2) (w .1) (told ∙ w .0 .left))
           (c .if1 .came),
     )
@@ -137,9 +145,7 @@ names-apart-spec =
     mul-may-be-named-2
     shared-slice-read-may-be-named-2
     may-be-named-requires
-    add-slot
-    mul-slot
-    shared-slice-read-slot
+    slot-at-requires
     array-read-if2
     known-before-requires
     returns

@@ -6,7 +6,7 @@ use Prim.Native.Nat.{_+_, _*_, _≤_, _-_}
 use native.Mathlib.Omega.{arith}
 use lib.ListN.{getD}
 use borrow.Author.Needs.{needs}
-use Rattle.prepared.proofs.LawsLoad.{Indexed, indexed-none, indexed-next, neither-args, neither-kwargs}
+use Rattle.prepared.proofs.LawsLoad.{Indexed, indexed-none, indexed-next, counts-plain, counts-rest, neither-args, neither-kwargs}
 use Rattle.prepared.proofs.load.indices_in.Statement.{statement}
 use Rattle.prepared.proofs.load.indices_in.Tie as tie
 
@@ -40,18 +40,6 @@ mul-style c = search needs
 shared-slice-read-style : tie.Need-shared-slice-read-style Inv-loop μ-loop
 shared-slice-read-style c = search needs
 
-is-positional-only-requires : tie.Need-is-positional-only-requires Inv-loop μ-loop
-is-positional-only-requires c κs = search needs
-
-counted-requires : tie.Need-counted-requires Inv-loop μ-loop
-counted-requires c κs = omega (arith, c .before .before .before .before .loop .inv .1 .only-few)
-
-is-positional-requires : tie.Need-is-positional-requires Inv-loop μ-loop
-is-positional-requires c κs = search needs
-
-counted-requires-2 : tie.Need-counted-requires-2 Inv-loop μ-loop
-counted-requires-2 c κs = omega (arith, c .before .before .before .before .before .before .loop .inv .1 .few)
-
 takes-rest-requires : tie.Need-takes-rest-requires Inv-loop μ-loop
 takes-rest-requires c κs = search needs
 
@@ -64,6 +52,12 @@ is-kwargs-requires c κs = search needs
 or-first-requires-2 : tie.Need-or-first-requires-2 Inv-loop μ-loop
 or-first-requires-2 c κs = search needs
 
+counted-requires : tie.Need-counted-requires Inv-loop μ-loop
+counted-requires c κs = omega (arith, c .before .before .before .before .before .loop .inv .1 .only-few, c .before .before .before .before .loop-test .taken)
+
+counted-requires-2 : tie.Need-counted-requires-2 Inv-loop μ-loop
+counted-requires-2 c κs = omega (arith, c .before .before .before .before .before .before .loop .inv .1 .few)
+
 add-i : tie.Need-add-i Inv-loop μ-loop
 add-i c = search needs
 
@@ -73,20 +67,18 @@ loop-less c = search needs
 loop-again : tie.Need-loop-again Inv-loop μ-loop
 loop-again c =
     let rest = c .before in
-    let counts = rest .before in
-    let first = counts .before .before .before in
-    let at = first .before .before .before .before .loop in
-    let cells = first .before .before .before .before .before .before .args .cells .now in
-    let code = getD cells (2 + 6 * at .i) 0 in (
+    let at = rest .before .before .before .before .loop in
+    let cells = rest .before .before .before .before .before .before .args .cells .now in
+    let code = getD cells (2 + 6 * at .i) 0 in
+    let style = getD cells (2 + 6 * at .i + 1) 0 in (
       search needs,
       ⊎-elim
-          (λ w. indexed-next cells (at .i) (at .only) (at .positional) (at .args) (at .kwargs) _ _ _ _ (at .inv .1) (first .is-positional-only .ensures)
-          (counts .before .before .counted .ensures) (counts .before .is-positional .ensures) (counts .counted2 .ensures) (w .4 ∙ w .1 .ensures) (w .2 .ensures)
-          (w .5 ∙ w .3 .ensures))
-          (λ w. indexed-next cells (at .i) (at .only) (at .positional) (at .args) (at .kwargs) _ _ _ _ (at .inv .1) (first .is-positional-only .ensures)
-          (counts .before .before .counted .ensures) (counts .before .is-positional .ensures) (counts .counted2 .ensures)
-          (neither-args code (at .args) _ (at .i) (rest .takes-rest .ensures) (w .0 .left) (w .1)) refl
-          (neither-kwargs code (at .kwargs) _ (at .i) (rest .takes-rest .ensures) (w .0 .left) (w .2)))
+          (λ w. let uncounted = counts-rest code style (rest .takes-rest .ensures) (w .0 .taken) in
+          indexed-next cells (at .i) (at .only) (at .positional) (at .args) (at .kwargs) _ _ _ _ (at .inv .1) (uncounted .0) (w .4) (uncounted .1) (w .5) (w .6 ∙ w .1 .ensures) (w .2 .ensures) (w .7 ∙ w .3 .ensures))
+          (λ w. let counted = counts-plain code style (rest .takes-rest .ensures) (w .0 .left) in
+          indexed-next cells (at .i) (at .only) (at .positional) (at .args) (at .kwargs) _ _ _ _ (at .inv .1) (counted .0) (w .3 ∙ w .1 .ensures) (counted .1) (w .4 ∙ w .2 .ensures)
+          (neither-args code (at .args) _ (at .i) (rest .takes-rest .ensures) (w .0 .left) (w .5)) refl
+          (neither-kwargs code (at .kwargs) _ (at .i) (rest .takes-rest .ensures) (w .0 .left) (w .6)))
           (c .if1 .came),
     )
 
@@ -110,14 +102,12 @@ indices-in-spec =
     add-style
     mul-style
     shared-slice-read-style
-    is-positional-only-requires
-    counted-requires
-    is-positional-requires
-    counted-requires-2
     takes-rest-requires
     or-first-requires
     is-kwargs-requires
     or-first-requires-2
+    counted-requires
+    counted-requires-2
     add-i
     loop-less
     loop-again
