@@ -1,7 +1,7 @@
 -- Questions 9 to 13 (01, the questions, call record), as the code asks them, by the head of the record and the indices at which its
 -- parts begin. In this order: counts that are few, as bounds; kinds past 2; what is well formed, part by part; each question as one
--- of the head or of runs of cells; the bounds that 9 gives; what 11 leaves to 12 and 13; and the answers of `askForm` and `askCall`
--- taken apart where they are fine. `h` is the head that was read. Assumes nothing.
+-- of the head or of runs of cells; the bounds that 9 gives; what 11 leaves to 12 and 13; the answers of `askForm` and `askCall`
+-- taken apart where they are fine; and 13 after the others. `h` is the head that was read. Assumes nothing.
 use mathlib.Core.Path.{_≡_, refl, sym, ap, _∙_}
 use mathlib.Core.Bool.{true, false, _&&_}
 use mathlib.Core.List.{List}
@@ -14,12 +14,13 @@ use borrow.Author.Tests.{leb-true, eqb-true}
 use Rattle.rules.specs.Listing.{all}
 use Rattle.rules.specs.Text.{differ}
 use Rattle.rules.specs.Value.{valueWidth, wellFormedArgument}
-use Rattle.rules.specs.Answer.{fine, _then_, ask}
+use Rattle.rules.specs.Answer.{Answer, fine, refuse, _then_, ask}
 use Rattle.rules.specs.CallRecord.{Head, CallRecord, headWidth, pairWidth, readHead, callLength, readCall}
 use Rattle.rules.specs.CallQuestions.{lengthsRight, kindRight, kindsRight, wellFormedPair, wellFormedEntry, partsWellFormed, keysDiffer, entriesDiffer, namesDiffer, askForm, askCall}
 use Rattle.rules.proofs.LawsListing.{and-left, and-right}
 use Rattle.rules.proofs.LawsAnswer.{then-left, then-right, ask-true}
 use Rattle.calls.specs.Head.{atMost, Few, namedFrom, itemsFrom, entriesFrom}
+use Rattle.calls.specs.Keys.{askKeys}
 use Rattle.calls.specs.Runs.{valuesAt, pairsAt, Formed, keysAt, namesAt}
 use Rattle.calls.proofs.LawsEach.{each-length}
 
@@ -199,3 +200,17 @@ module _ (B : ℕ) (cells area : List ℕ) (e : askCall B cells area ≡ fine) w
   call-names =
       ask-true 13 (namesDiffer area (readCall cells))
       (then-right (ask 12 (entriesDiffer area (readCall cells))) (ask 13 (namesDiffer area (readCall cells))) after-form)
+
+-- ---- 13 after 9 to 12
+
+in-turn : (a b d : Answer) → ((a then b) then d) ≡ (a then b then d)
+in-turn (refuse n x) b d = refl
+in-turn fine b d = refl
+
+pub call-in-turn : (B : ℕ) (cells area : List ℕ) → askCall B cells area ≡ (askKeys B cells area then ask 13 (namesDiffer area (readCall cells)))
+unfolding askCall askKeys
+call-in-turn B cells area = sym (in-turn (askForm B cells area) (ask 12 (entriesDiffer area (readCall cells))) (ask 13 (namesDiffer area (readCall cells))))
+
+pub keys-form : (B : ℕ) (cells area : List ℕ) → askKeys B cells area ≡ fine → askForm B cells area ≡ fine
+unfolding askKeys
+keys-form B cells area e = then-left (askForm B cells area) (ask 12 (entriesDiffer area (readCall cells))) e

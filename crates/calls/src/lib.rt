@@ -12,6 +12,7 @@ use cells::answer::Answer;
 ghost use mathlib.Core.Path.{_≡_};
 ghost use Rattle.rules.specs.CallQuestions.{askForm, askCall};
 ghost use Rattle.cells.specs.Answer.{answerOf};
+ghost use Rattle.calls.specs.Keys.{askKeys};
 
 pub mod differ;
 pub mod form;
@@ -36,9 +37,9 @@ pub fn ask_form(cells: &[u64], area: &[u8]) -> Answer
     Answer::Fine
 }
 
-// Questions 9 to 13.
-pub fn ask_call(cells: &[u64], area: &[u8]) -> Answer
-    ensures { λ r. ⌜ answerOf r ≡ askCall 64 (now (cells .entry)) (now (area .entry)) ⌝ }
+// Questions 9 to 12: all but 13, which binding answers by what the names mean.
+pub fn ask_keys(cells: &[u64], area: &[u8]) -> Answer
+    ensures { λ r. ⌜ answerOf r ≡ askKeys 64 (now (cells .entry)) (now (area .entry)) ⌝ }
 {
     let form = ask_form(cells, area);
     if let Answer::Refused(_) = form {
@@ -48,6 +49,18 @@ pub fn ask_call(cells: &[u64], area: &[u8]) -> Answer
     if !keys_differ(cells, area, entries_from(h), h.d) {
         return Answer::Refused(12);
     }
+    Answer::Fine
+}
+
+// Questions 9 to 13.
+pub fn ask_call(cells: &[u64], area: &[u8]) -> Answer
+    ensures { λ r. ⌜ answerOf r ≡ askCall 64 (now (cells .entry)) (now (area .entry)) ⌝ }
+{
+    let keys = ask_keys(cells, area);
+    if let Answer::Refused(_) = keys {
+        return keys;
+    }
+    let h = read_head(cells);
     if !names_differ(cells, area, named_from(h), h.n) {
         return Answer::Refused(13);
     }

@@ -2,7 +2,7 @@
 -- the outcome of `rules`, so where both paths apply they agree (`paths-agree`).
 -- Assumes nothing.
 use mathlib.Core.Path.{_≡_, refl, sym, ap, ap₂, subst, _∙_}
-use mathlib.Core.Bool.{true, _&&_, false≢true}
+use mathlib.Core.Bool.{true, false, _&&_, false≢true}
 use mathlib.Core.List.{List, [], _∷_, _++_, map, append-nil}
 use Prim.Native.Nat.{ℕ, suc, _+_, _*_, _≤_, _<_}
 use native.Mathlib.Nat.{zero-add}
@@ -18,7 +18,7 @@ use Rattle.rules.specs.Parameters.{Parameter, positionalCount}
 use Rattle.rules.specs.Placement as rules
 use Rattle.rules.specs.Board.{boardAfter, boardLeast-64, written}
 use Rattle.rules.specs.ParameterQuestions.{askParameters, listOf}
-use Rattle.rules.specs.CallQuestions.{askCall, askBoard}
+use Rattle.rules.specs.CallQuestions.{namesDiffer, askCall, askBoard}
 use Rattle.rules.specs.Binding.{askBinding}
 use Rattle.rules.specs.Collection.{Outcome, accepted, outcomeOf, callOf, askRecords, collection}
 use Rattle.rules.proofs.LawsListing.{and-left, and-right}
@@ -32,6 +32,8 @@ use Rattle.builder.specs.declared.spec.ParametersSpec.{ParametersSpec}
 use Rattle.cells.proofs.LawsListed.{length-listed, elements}
 use Rattle.answers.specs.Answer.{told, answerIn, isRefusal, countsOf}
 use Rattle.calls.specs.Head.{namedFrom, entriesFrom}
+use Rattle.calls.specs.Keys.{askKeys}
+use Rattle.calls.proofs.LawsCall.{call-in-turn}
 use Rattle.findings.specs.Resolved.{namedAt, Resolved}
 use Rattle.findings.specs.EntriesDone.{entryAt}
 use Rattle.calls.specs.Values.{positionalAt, valuesIn}
@@ -165,6 +167,14 @@ module _ (qs : List Parameter) (c : Call) (cells : List ℕ) (h : Head) (short :
       fits : length (writeEach valueCells (c .positionals)) ≤ length before
       fits = omega (arith, wide, values-length)
 
+-- the short path is for calls without names
+pub short-unnamed : (positional len : ℕ) (h : Head) → isShort positional len h ≡ true → h .n ≡ 0
+short-unnamed positional len h e =
+    eqb-true (h .n) 0
+    (and-left (eqb (h .n) 0) (eqb (h .starKind) 0 && eqb (h .doubleKind) 0)
+    (and-right (eqb positional len) (eqb (h .n) 0 && (eqb (h .starKind) 0 && eqb (h .doubleKind) 0))
+    (and-right (eqb (h .p) positional) (eqb positional len && (eqb (h .n) 0 && (eqb (h .starKind) 0 && eqb (h .doubleKind) 0))) e)))
+
 -- a record that passed its questions, where the short path applies
 module _ (spec : List ℕ) (l : ParametersSpec) (cells area : List ℕ) (h : Head) (read : h ≡ readHead cells) (next : ℕ) (ready : CallReady spec l cells area h next (callOf cells area)) (applies : isShort (l .indices .«num_positional») (l .params .len) h ≡ true) where
   abbrev call : Call
@@ -184,9 +194,6 @@ module _ (spec : List ℕ) (l : ParametersSpec) (cells area : List ℕ) (h : Hea
 
   after-len : (eqb (h .n) 0 && (eqb (h .starKind) 0 && eqb (h .doubleKind) 0)) ≡ true
   after-len = and-right (eqb positional (l .params .len)) (eqb (h .n) 0 && (eqb (h .starKind) 0 && eqb (h .doubleKind) 0)) after-p
-
-  n-none : h .n ≡ 0
-  n-none = eqb-true (h .n) 0 (and-left (eqb (h .n) 0) (eqb (h .starKind) 0 && eqb (h .doubleKind) 0) after-len)
 
   kinds-none : (eqb (h .starKind) 0 && eqb (h .doubleKind) 0) ≡ true
   kinds-none = and-right (eqb (h .n) 0) (eqb (h .starKind) 0 && eqb (h .doubleKind) 0) after-len
@@ -216,7 +223,7 @@ module _ (spec : List ℕ) (l : ParametersSpec) (cells area : List ℕ) (h : Hea
             elements (positionalAt cells h) noValue 0 (call .positionals)
             (λ k below. ap (λ vs. getD vs k noValue) (sym only-written) ∙ ready .values k (rw only-written below) ∙ ap (positionalAt cells h) (sym (zero-add k)))
             ∙ ap (listed (positionalAt cells h) 0) written-length;
-        unnamed = ready .written ∙ ap (listed (λ k. namedAt area cells (namedFrom h + 4 * k)) 0) n-none;
+        unnamed = ready .written ∙ ap (listed (λ k. namedAt area cells (namedFrom h + 4 * k)) 0) (short-unnamed positional (l .params .len) h applies);
         no-star = star-none;
         no-double = double-none;
       }
@@ -235,6 +242,16 @@ module _ (qs : List Parameter) (cells area board : List ℕ) where
   pub bound-refused : (n : ℕ) → askCall 64 cells area ≡ refuse n none → Ends (boundTo qs cells area board) board board (Record n)
   unfolding boundTo
   bound-refused n e = ends-refused qs (positionalsOf c) (namedOf c) board (askCall 64 cells area then askBoard 64 64 board then askBinding qs c) (Record n) refl (sym (ap (λ a. a then askBoard 64 64 board then askBinding qs c) e))
+
+  -- what 9 to 12 refuse, and 13 after them
+  pub bound-keys : (n : ℕ) → askKeys 64 cells area ≡ refuse n none → Ends (boundTo qs cells area board) board board (Record n)
+  bound-keys n e = bound-refused n (call-in-turn 64 cells area ∙ ap (λ a. a then ask 13 (namesDiffer area (readCall cells))) e)
+
+  pub bound-names : askKeys 64 cells area ≡ fine → namesDiffer area (readCall cells) ≡ false → Ends (boundTo qs cells area board) board board (Record 13)
+  bound-names e d = bound-refused 13 (call-in-turn 64 cells area ∙ ap (λ a. a then ask 13 (namesDiffer area (readCall cells))) e ∙ ap (ask 13) d)
+
+  pub call-passed : askKeys 64 cells area ≡ fine → namesDiffer area (readCall cells) ≡ true → askCall 64 cells area ≡ fine
+  call-passed e d = call-in-turn 64 cells area ∙ ap (λ a. a then ask 13 (namesDiffer area (readCall cells))) e ∙ ap (ask 13) d
 
   module _ (passed : askCall 64 cells area ≡ fine) where
     pub bound-short-board : length board < 896 → Ends (boundTo qs cells area board) board board (Record 14)

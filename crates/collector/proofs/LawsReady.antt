@@ -1,4 +1,4 @@
--- A call record that passes 9 to 13 is ready to be asked 15 to 24: its call's names, entries and values of P are what stands at the
+-- A call record that passes 9 to 11 is ready to be asked 15 to 24: its call's names, entries and values of P are what stands at the
 -- places that the code computes. `h` is the head that was read.
 -- Assumes nothing.
 use mathlib.Core.Path.{_≡_, sym, ap, ap₂, _∙_}
@@ -13,7 +13,7 @@ use Rattle.rules.specs.Text.{sizeOf, inside, isText, differ}
 use Rattle.rules.specs.Value.{Value, noValue, valueWidth, callText, wellFormedName, wellFormedKey}
 use Rattle.rules.specs.Answer.{fine}
 use Rattle.rules.specs.CallRecord.{Head, Pair, headWidth, pairWidth, readHead, readPair, readCall, namedIn, entryIn, callIn, entriesOf, positionalsOf}
-use Rattle.rules.specs.CallQuestions.{lengthsRight, kindsRight, wellFormedEntry, askForm, askCall}
+use Rattle.rules.specs.CallQuestions.{lengthsRight, kindsRight, wellFormedEntry, namesDiffer, askForm}
 use Rattle.rules.specs.Binding.{textsOf}
 use Rattle.rules.specs.Collection.{callOf}
 use Rattle.rules.proofs.LawsListing.{and-left, map-map}
@@ -25,7 +25,7 @@ use Rattle.calls.specs.Runs.{pairsAt}
 use Rattle.cells.proofs.LawsListed.{all-at}
 use Rattle.calls.proofs.LawsEach.{each-length, each-at, each-map}
 use Rattle.calls.proofs.LawsForm.{entry-key}
-use Rattle.calls.proofs.LawsCall.{names-by, lengths-few, positionals-within, formed-entries, form-lengths, form-kinds, form-parts, call-form, call-names}
+use Rattle.calls.proofs.LawsCall.{names-by, lengths-few, positionals-within, formed-entries, form-lengths, form-kinds, form-parts}
 use Rattle.calls.proofs.LawsPlaces.{named-run, entries-run, positionals-length, star-passes, double-passes, positional-at}
 use Rattle.findings.specs.Resolved.{namedAt}
 use Rattle.findings.specs.Resolve.{Prepared, Pairs}
@@ -55,10 +55,7 @@ named-near : (h : Head) → Few 64 h → namedFrom h ≤ 1024
 unfolding namedFrom headWidth valueWidth
 named-near h few = omega (arith, few .few-p)
 
-module _ (cells area : List ℕ) (h : Head) (read : h ≡ readHead cells) (passed : askCall 64 cells area ≡ fine) where
-  form : askForm 64 cells area ≡ fine
-  form = call-form 64 cells area passed
-
+module _ (cells area : List ℕ) (h : Head) (read : h ≡ readHead cells) (form : askForm 64 cells area ≡ fine) where
   nine : lengthsRight 64 cells ≡ true
   nine = form-lengths 64 cells area form
 
@@ -77,7 +74,7 @@ module _ (cells area : List ℕ) (h : Head) (read : h ≡ readHead cells) (passe
   unfolding namedAt
   written = named-run area cells h read ten ∙ run-listed (namedIn area) cells (namedFrom h) (h .n)
 
-  pairs : Pairs area cells (namedFrom h) (h .n)
+  pub pairs : Pairs area cells (namedFrom h) (h .n)
   pairs =
       record {
         few = call-few .few-n;
@@ -90,13 +87,17 @@ module _ (cells area : List ℕ) (h : Head) (read : h ≡ readHead cells) (passe
             };
       }
 
-  apart : differ (textsOf (writtenNames area cells h)) ≡ true
+  -- 13 asks whether the written names differ
+  pub names-asked : differ (textsOf (writtenNames area cells h)) ≡ namesDiffer area (readCall cells)
   unfolding textsOf
-  apart =
+  names-asked =
       ap (λ vs. differ (textsOf vs)) (sym written ∙ named-run area cells h read ten)
       ∙ ap differ (map-map (namedIn area) (λ v. v .name) (pairsAt cells (namedFrom h) (h .n)))
       ∙ sym (names-by cells h read area)
-      ∙ call-names 64 cells area passed
+
+  pub none-written : h .n ≡ 0 → namesDiffer area (readCall cells) ≡ true
+  unfolding textsOf
+  none-written e = sym names-asked ∙ ap (λ n. differ (textsOf (listed (λ k. namedAt area cells (namedFrom h + 4 * k)) 0 n))) e
 
   entries : entriesOf (callIn area (readCall cells) .double) ≡ entriesIn area cells (entriesFrom h) 0 (h .d)
   unfolding entryAt
@@ -130,7 +131,6 @@ module _ (cells area : List ℕ) (h : Head) (read : h ≡ readHead cells) (passe
         double = double-passes area cells h read ten;
         written = written;
         pairs = pairs;
-        apart = apart;
         entries = entries;
         keys-formed = keys-formed;
         long = long;

@@ -2,7 +2,7 @@
 use mathlib.Core.Path.{_≡_}
 use mathlib.Core.Bool.{Bool, _&&_}
 use mathlib.Core.List.{List, []}
-use Prim.Native.Nat.{ℕ, _+_, min, _≤_}
+use Prim.Native.Nat.{ℕ, _≤_}
 use lib.Dec.{eqb}
 use lib.ListN.{length}
 use Rattle.rules.specs.Answer.{fine, _then_}
@@ -14,6 +14,11 @@ use Rattle.rules.specs.Collection.{Outcome, outcomeOf, boardLeft, callOf}
 use Rattle.builder.specs.declared.spec.ParametersSpec.{ParametersSpec}
 use Rattle.answers.specs.Answer.{told}
 use Rattle.calls.specs.Values.{valuesIn}
+use Rattle.builder.specs.Params.{parametersIn}
+use Rattle.calls.specs.Keys.{askKeys}
+use Rattle.findings.specs.Resolved.{Resolved}
+use Rattle.findings.specs.Resolve.{Prepared}
+use Rattle.findings.specs.EntriesDone.{writtenNames}
 use Rattle.questions.specs.Questions.{CallReady}
 use Rattle.answers.specs.declared.answer.Collected.{Collected}
 use Rattle.calls.specs.Head.{headOf}
@@ -41,10 +46,10 @@ abbrev pub isShort : (positional len : ℕ) → Head → Bool
 isShort positional len h =
     eqb (h .p) positional && (eqb positional len && (eqb (h .n) 0 && (eqb (h .starKind) 0 && eqb (h .doubleKind) 0)))
 
--- after 9 to 14 and the short path a call has ended as it does against the list, or it passed 9 to 14 and nothing is written
+-- after 9 to 12 and the short path a call has ended as it does against the list, or it passed 9 to 12 and nothing is written
 pub record Beginning (qs : List Parameter) (cells area before after : List ℕ) (r : Begun) : Type 0 where
   pub ended : (c : Collected) → r ≡ Ended c → Ends (boundTo qs cells area before) before after c
-  pub left-open : (h : CodeHead) → r ≡ Open h → (headOf h ≡ readHead cells) × (askCall 64 cells area ≡ fine) × (896 ≤ length before) × (after ≡ before)
+  pub left-open : (h : CodeHead) → r ≡ Open h → (headOf h ≡ readHead cells) × (askKeys 64 cells area ≡ fine) × (after ≡ before)
 
 -- a call that the short path is for, its values standing in a record
 pub record ShortCall (qs : List Parameter) (c : Call) (cells : List ℕ) (h : Head) : Type 0 where
@@ -55,7 +60,14 @@ pub record ShortCall (qs : List Parameter) (c : Call) (cells : List ℕ) (h : He
   pub no-star : c .star ≡ noStar
   pub no-double : c .double ≡ noDouble
 
--- a call against a prepared list, and a board that passes 14
-pub record SlowReady (spec : List ℕ) (l : ParametersSpec) (cells area : List ℕ) (h : Head) (board : List ℕ) : Type 0 where
-  pub call : CallReady spec l cells area h (min (h .p + h .s) (l .indices .«num_positional»)) (callOf cells area)
+-- a prepared list, and a record that passes 9 to 12
+pub record OpenReady (spec : List ℕ) (l : ParametersSpec) (cells area : List ℕ) (h : Head) : Type 0 where
+  pub list : Prepared spec l
+  pub read : h ≡ readHead cells
+  pub passed : askKeys 64 cells area ≡ fine
+
+-- a call against a prepared list, its written names resolved, and a board that passes 14
+pub record SlowReady (spec : List ℕ) (l : ParametersSpec) (cells area : List ℕ) (h : Head) (next : ℕ) (sources rest : List ℕ) (before : ℕ) (board : List ℕ) : Type 0 where
+  pub call : CallReady spec l cells area h next (callOf cells area)
+  pub names : Resolved (parametersIn spec (l .params)) cells area (writtenNames area cells h) sources rest before
   pub long : 896 ≤ length board

@@ -8,12 +8,15 @@ use builder::build;
 use builder::params::CAPACITY;
 use builder::spec::DefParamIndices;
 use builder::spec::ParametersSpec;
-use calls::ask_call;
+use calls::ask_keys;
 use calls::head::Head;
+use calls::head::named_from;
 use calls::head::read_head;
 use calls::values::copy_written;
 use cells::answer::Answer;
 use findings::resolve::NAMED;
+use findings::resolve::Names;
+use findings::resolve::resolve_names;
 use questions::judge::Judged;
 use questions::questions::judge;
 use slots::board::write_board;
@@ -29,7 +32,7 @@ ghost use Rattle.builder.specs.Params.{parametersIn};
 ghost use Rattle.calls.specs.Head.{headOf, Few};
 ghost use Rattle.findings.specs.Resolve.{Prepared};
 ghost use Rattle.questions.specs.Questions.{lentWith};
-ghost use Rattle.collector.specs.Collect.{Ends, bindingOf, boundTo, isShort, Beginning, ShortCall, SlowReady};
+ghost use Rattle.collector.specs.Collect.{Ends, bindingOf, boundTo, isShort, Beginning, ShortCall, OpenReady, SlowReady};
 
 // A board holds 64 slots, a star remainder of 128 values and a named remainder of 128 pairs.
 pub const BOARD: usize = 896;
@@ -68,7 +71,7 @@ pub fn bind(
     let begun = begin(indices.num_positional, list.params.len, cells, area, board);
     match begun {
         Begun::Ended(ended) => ended,
-        Begun::Open(h) => collect_slow(
+        Begun::Open(h) => collect_open(
             spec,
             &list.params.codes,
             &list.params.styles,
@@ -85,25 +88,26 @@ pub fn bind(
     }
 }
 
-// How far a call is after 9 to 14 and the short path: at its end, or left to the general path, with nothing written.
+// How far a call is after 9 to 12 and the short path: at its end, or left open, with nothing written.
 pub enum Begun {
     Ended(Collected),
     Open(Head),
 }
 
-// 9 to 14, and the short path where it applies. Of the list no more is asked than how many parameters it has and how many are positional.
+// 9 to 12, and the short path where it applies: it is for calls without names, so that 13 has nothing to ask. Of the list no more is asked than
+// how many parameters it has and how many are positional.
 pub fn begin(positional: usize, len: usize, cells: &[u64], area: &[u8], board: &mut [u64]) -> Begun
     ensures { λ r. ⌜ ((spec : List ℕ) (l : ParametersSpec) → Prepared spec l → l .indices .«num_positional» ≡ positional → l .params .len ≡ len → Beginning (parametersIn spec (l .params)) (now (cells .entry)) (now (area .entry)) (now (board .entry)) (now (board .exit)) r) ⌝ }
 {
-    let asked = ask_call(cells, area);
+    let asked = ask_keys(cells, area);
     if let Answer::Refused(question) = asked {
         return Begun::Ended(Collected::Record(question));
     }
-    if board.len() < BOARD {
-        return Begun::Ended(Collected::Record(14));
-    }
     let h = read_head(cells);
     if is_short(positional, len, h) {
+        if board.len() < BOARD {
+            return Begun::Ended(Collected::Record(14));
+        }
         return Begun::Ended(collect_inline(cells, h, board));
     }
     Begun::Open(h)
@@ -142,8 +146,8 @@ fn collect_inline(cells: &[u64], h: Head, board: &mut [u64]) -> Collected
     })
 }
 
-// The general path: 15 to 24, and then the board. The list is lent by its columns.
-pub fn collect_slow<'a>(
+// A call that is left open: 13, by what its names are found to mean, then 14 and the general path. The list is lent by its columns.
+pub fn collect_open<'a>(
     spec: &'a [u8],
     codes: &'a [u8; CAPACITY],
     styles: &'a [u8; CAPACITY],
@@ -157,13 +161,78 @@ pub fn collect_slow<'a>(
     h: Head,
     board: &mut [u64],
 ) -> Collected
-    requires { ⌜ SlowReady (now spec) (lentWith (now codes) (now styles) (now names) len indices (now kinds) (now payloads)) (now cells) (now area) (headOf h) (now board) ⌝ }
-    ensures { λ r. ⌜ Ends (bindingOf (parametersIn (now (spec .entry)) (lentWith (now (codes .entry)) (now (styles .entry)) (now (names .entry)) len indices (now (kinds .entry)) (now (payloads .entry)) .params)) (callOf (now (cells .entry)) (now (area .entry))) (now (board .entry))) (now (board .entry)) (now (board .exit)) r ⌝ }
+    requires { ⌜ OpenReady (now spec) (lentWith (now codes) (now styles) (now names) len indices (now kinds) (now payloads)) (now cells) (now area) (headOf h) ⌝ }
+    ensures { λ r. ⌜ Ends (boundTo (parametersIn (now (spec .entry)) (lentWith (now (codes .entry)) (now (styles .entry)) (now (names .entry)) len indices (now (kinds .entry)) (now (payloads .entry)) .params)) (now (cells .entry)) (now (area .entry)) (now (board .entry))) (now (board .entry)) (now (board .exit)) r ⌝ }
 {
     let positional = indices.num_positional;
     let next = least(h.p + h.s, positional);
+    let from = named_from(h);
     let mut sources: [usize; 64] = [0; 64];
     let mut rest: [usize; NAMED] = [0; NAMED];
+    let resolved = resolve_names(
+        spec,
+        codes,
+        styles,
+        names,
+        len,
+        cells,
+        area,
+        from,
+        h.n,
+        next,
+        &mut sources,
+        &mut rest,
+    );
+    match resolved {
+        Names::Repeated => Collected::Record(13),
+        Names::All(count) => {
+            if board.len() < BOARD {
+                return Collected::Record(14);
+            }
+            collect_slow(
+                spec,
+                codes,
+                styles,
+                names,
+                kinds,
+                payloads,
+                len,
+                indices,
+                cells,
+                area,
+                h,
+                next,
+                &mut sources,
+                &mut rest,
+                count,
+                board,
+            )
+        }
+    }
+}
+
+// The general path, of a call whose written names are resolved: 15 to 24, and then the board.
+fn collect_slow<'a>(
+    spec: &'a [u8],
+    codes: &'a [u8; CAPACITY],
+    styles: &'a [u8; CAPACITY],
+    names: &'a [u64; CAPACITY],
+    kinds: &'a [u64; CAPACITY],
+    payloads: &'a [u64; CAPACITY],
+    len: usize,
+    indices: DefParamIndices,
+    cells: &[u64],
+    area: &[u8],
+    h: Head,
+    next: usize,
+    sources: &mut [usize; 64],
+    rest: &mut [usize; NAMED],
+    before: usize,
+    board: &mut [u64],
+) -> Collected
+    requires { ⌜ SlowReady (now spec) (lentWith (now codes) (now styles) (now names) len indices (now kinds) (now payloads)) (now cells) (now area) (headOf h) next (now sources) (now rest) before (now board) ⌝ }
+    ensures { λ r. ⌜ Ends (bindingOf (parametersIn (now (spec .entry)) (lentWith (now (codes .entry)) (now (styles .entry)) (now (names .entry)) len indices (now (kinds .entry)) (now (payloads .entry)) .params)) (callOf (now (cells .entry)) (now (area .entry))) (now (board .entry))) (now (board .entry)) (now (board .exit)) r ⌝ }
+{
     let judged = judge(
         spec,
         codes,
@@ -175,8 +244,9 @@ pub fn collect_slow<'a>(
         area,
         h,
         next,
-        &mut sources,
-        &mut rest,
+        sources,
+        rest,
+        before,
     );
     match judged {
         Judged::Refused(refusal) => refusal,
@@ -185,12 +255,12 @@ pub fn collect_slow<'a>(
             kinds,
             payloads,
             len,
-            positional,
+            indices.num_positional,
             cells,
             h,
             next,
-            &sources,
-            &rest,
+            sources,
+            rest,
             count,
             board,
         )),

@@ -2,25 +2,24 @@
 -- resolved like a written name.
 -- Assumes nothing.
 use mathlib.Core.Path.{_≡_, refl, sym, ap, ap₂, _∙_}
-use mathlib.Core.Bool.{Bool, true, false, cond, not, _&&_, _||_}
+use mathlib.Core.Bool.{Bool, true, false, cond, _&&_, _||_}
 use mathlib.Core.List.{List, []}
-use Prim.Native.Nat.{ℕ, zero, suc, min}
+use Prim.Native.Nat.{ℕ, min}
 use native.Mathlib.Omega.{arith}
 use borrow.Author.Tests.{eqb-true}
-use lib.Dec.{eqb, ltb, leb, eqb·suc-zero}
-use lib.ListN.{length, getD}
+use lib.Dec.{eqb, ltb, leb}
+use lib.ListN.{length}
 use Rattle.rules.specs.Text.{sizeOf, bytesAt, inside, isText, textIn, among}
 use Rattle.rules.specs.Value.{Value, callText, wellFormedKey}
 use Rattle.rules.specs.Answer.{fine, refuse, name, callArea, partOf}
 use Rattle.rules.specs.CallRecord.{Named, word, number, keyIn}
 use Rattle.rules.specs.Parameters.{Parameter, positionalCount}
-use Rattle.rules.specs.Lookup.{known, find, unknown}
+use Rattle.rules.specs.Lookup.{find}
 use Rattle.rules.specs.Passed.{positionalFirst, namesApart}
 use Rattle.rules.specs.Binding.{textsOf, namesFilled, askEntry}
 use Rattle.rules.proofs.LawsListing.{and-left, and-right}
 use Rattle.rules.proofs.LawsText.{payload-of-halves}
-use Rattle.rules.proofs.LawsPlacement.{isSome}
-use Rattle.rules.proofs.LawsFound.{isBelow, names-filled, among-unknown}
+use Rattle.rules.proofs.LawsFound.{isBelow, names-filled}
 use Rattle.cells.specs.Text.{textOf, partAt}
 use Rattle.cells.specs.Value.{readKey}
 use Rattle.cells.specs.Record.{pairAt, keyAt}
@@ -35,11 +34,11 @@ use Rattle.lookup.specs.Lookup.{findingOf, findIn}
 use Rattle.lookup.proofs.LawsBuilt.{lookup-columns}
 use Rattle.answers.specs.Answer.{placeOf}
 use Rattle.calls.proofs.LawsNamed.{key-inside}
-use Rattle.findings.specs.Resolved.{sourceValue, Resolved}
+use Rattle.findings.specs.Resolved.{Resolved}
 use Rattle.findings.specs.Resolve.{Prepared}
 use Rattle.findings.specs.Entries.{heldNames, takenBy, freeOr, enteredBy, wordIn, wordAt, enteredIn, enteredAt, entryAnswer}
 use Rattle.findings.specs.declared.entries.Entered.the-variants.{Free, NotText}
-use Rattle.findings.proofs.LawsResolved.{known-at, source-among}
+use Rattle.findings.proofs.LawsResolved.{repeats-is}
 use Rattle.findings.proofs.LawsNames.{anyParameter}
 
 -- ---- what is found is taken where 19 says so
@@ -47,20 +46,12 @@ use Rattle.findings.proofs.LawsNames.{anyParameter}
 module _ (qs : List Parameter) (cells area : List ℕ) (P : List Value) (N : List Named) (sources rest : List ℕ) (count next : ℕ) (b : List ℕ)
     (first : positionalFirst qs ≡ true) (apart : namesApart [] qs ≡ true) (upto : next ≡ min (length P) (positionalCount qs)) (r : Resolved qs cells area N sources rest count) where
   taken-is : (f : Finding) → findingOf f ≡ find qs b → takenBy f next sources (heldNames area cells rest count) b ≡ (namesFilled P 0 qs b || among b (textsOf N))
-  taken-is (At i) e = ap₂ (λ x y. x || y) (sym filled) (source-is (getD sources i 0) ∙ source-among qs cells area apart N sources rest count r b i anyParameter (sym e))
+  taken-is (At i) e = ap₂ (λ x y. x || y) (sym filled) (repeats-is qs cells area apart N sources rest count r b (At i) e anyParameter)
     where
       filled : namesFilled P 0 qs b ≡ ltb i next
       filled = names-filled qs P b anyParameter first apart ∙ ap₂ isBelow (sym upto) (sym e)
-
-      source-is : (n : ℕ) → not (eqb n 0) ≡ isSome (sourceValue cells n)
-      source-is zero = refl
-      source-is (suc n) = ap not (eqb·suc-zero n)
-  taken-is Unknown e =
-      ap (λ vs. among b (textsOf vs)) (sym (r .rest-is)) ∙ sym (among-unknown qs b N unknown-b) ∙ ap (λ x. x || among b (textsOf N)) (sym filled)
+  taken-is Unknown e = repeats-is qs cells area apart N sources rest count r b Unknown e anyParameter ∙ ap (λ x. x || among b (textsOf N)) (sym filled)
     where
-      unknown-b : known qs b ≡ false
-      unknown-b = known-at qs cells area b unknown (sym e)
-
       filled : namesFilled P 0 qs b ≡ false
       filled = names-filled qs P b anyParameter first apart ∙ ap (isBelow (min (length P) (positionalCount qs))) (sym e)
 

@@ -10,7 +10,7 @@ use native.Mathlib.Nat.{not-suc-le-zero, zero-add}
 use native.Mathlib.Numerals.{add-one}
 use native.Mathlib.Omega.{arith}
 use borrow.Author.Tests.{eq-eqb, eqb-true, eqb-false}
-use lib.Dec.{eqb}
+use lib.Dec.{eqb, eqb·suc-zero}
 use lib.ListN.{length, take, drop, getD, set, length-set, length-append}
 use lib.Seq.{getD-set-same, getD-set-other, take-suc-set, drop-drop}
 use Rattle.rules.specs.Listing.{keep}
@@ -24,12 +24,13 @@ use Rattle.rules.specs.Passed.{namesApart}
 use Rattle.rules.specs.Text.{among}
 use Rattle.rules.specs.Binding.{textsOf}
 use Rattle.rules.proofs.LawsPlacement.{isSome, partner-some}
-use Rattle.rules.proofs.LawsFound.{isAt, isFound, known-found, names-at, orElse, partner-snoc, keep-snoc, among-named}
+use Rattle.rules.proofs.LawsFound.{isAt, isFound, known-found, names-at, orElse, partner-snoc, keep-snoc, among-named, among-unknown}
 use Rattle.lookup.specs.declared.Finding as Code
 use Rattle.lookup.specs.declared.Finding.the-variants as code
 use Rattle.lookup.specs.Lookup.{findingOf}
 use Rattle.findings.specs.Resolved.{sourceValue, namedAt, NamedPair, Resolved}
 use Rattle.findings.specs.Resolve.{Below, sourcesAfter, restAfter, countAfter}
+use Rattle.findings.specs.Entries.{heldNames, repeatsBy}
 
 -- a source that is not 0
 pub source-some : (cells : List ℕ) (n : ℕ) → 0 < n → sourceValue cells n ≡ some (readValue (drop n cells))
@@ -39,6 +40,10 @@ source-some cells (suc n) h = refl
 pub source-none : (cells : List ℕ) (n : ℕ) → sourceValue cells n ≡ none → n ≡ 0
 source-none cells zero e = refl
 source-none cells (suc n) e = let z : _≡_ {A = ℕ} 0 1 = cc in absurd (omega arith)
+
+source-is : (cells : List ℕ) (n : ℕ) → not (eqb n 0) ≡ isSome (sourceValue cells n)
+source-is cells zero = refl
+source-is cells (suc n) = ap not (eqb·suc-zero n)
 
 -- the value of the pair at a cell stands two cells further
 pub namedAt-value : (area cells : List ℕ) (pair : ℕ) → namedAt area cells pair .value ≡ readValue (drop (pair + 2) cells)
@@ -151,6 +156,11 @@ module _ (qs : List Parameter) (cells area : List ℕ) (apart : namesApart [] qs
       ap isSome (sym (r .sources-are i d (find-within qs b i e)))
       ∙ partner-some (getD qs i d) N
       ∙ sym (among-named b (getD qs i d) N (named-at qs cells area apart b (at i) e i d (find-within qs b i e) ∙ eq-eqb i i refl))
+
+  -- so a name stands among those before exactly where its slot has a source, or where the remainder has it
+  pub repeats-is : (f : Code.Finding) → findingOf f ≡ find qs b → (d : Parameter) → repeatsBy f sources (heldNames area cells rest count) b ≡ among b (textsOf N)
+  repeats-is (code.At i) e d = source-is cells (getD sources i 0) ∙ source-among i d (sym e)
+  repeats-is code.Unknown e d = ap (λ vs. among b (textsOf vs)) (sym (r .rest-is)) ∙ sym (among-unknown qs b N (known-at qs cells area b unknown (sym e)))
 
   pub source-free : (i : ℕ) (d : Parameter) → find qs b ≡ at i → among b (textsOf N) ≡ false → getD sources i 0 ≡ 0
   source-free i d e f = go (getD sources i 0) (source-among i d e ∙ f)

@@ -1,4 +1,4 @@
--- What 18 and 19 answer for an entry, by what is found for its key and what the names before it fill.
+-- What 18 and 19 answer for an entry, by what is found for its key and what the names before it fill; and 13 for a written name, likewise.
 use mathlib.Core.Path.{_≡_}
 use mathlib.Core.Bool.{Bool, cond, not, _||_}
 use mathlib.Core.List.{List, map}
@@ -30,6 +30,11 @@ pub record Held (area cells rest : List ℕ) (count : ℕ) : Type 0 where
 
 abbrev pub heldNames : List ℕ → List ℕ → List ℕ → ℕ → List Named
 heldNames area cells rest count = map (namedAt area cells) (take count rest)
+
+-- is a name one of those that are resolved: has the slot that is found a source, or has the remainder a name that is not found?
+abbrev pub repeatsBy : Finding → List ℕ → List Named → List ℕ → Bool
+repeatsBy (At i) sources rest bytes = not (eqb (getD sources i 0) 0)
+repeatsBy Unknown sources rest bytes = among bytes (textsOf rest)
 
 -- is a slot that is found filled already, or a name that is not found in the remainder already?
 abbrev pub takenBy : Finding → ℕ → List ℕ → List Named → List ℕ → Bool

@@ -1,12 +1,13 @@
 -- What resolving a name finds and keeps.
 use mathlib.Core.Path.{_≡_}
-use mathlib.Core.Bool.{true}
+use mathlib.Core.Bool.{true, false}
 use mathlib.Core.List.{List, []}
 use Prim.Native.Nat.{ℕ, _+_, _*_, _<_, _≤_}
 use lib.ListN.{set}
 use Rattle.rules.specs.Listing.{all}
 use Rattle.rules.specs.Text.{differ}
 use Rattle.rules.specs.CallRecord.{Named}
+use Rattle.rules.specs.Parameters.{Parameter}
 use Rattle.rules.specs.Binding.{textsOf}
 use Rattle.rules.specs.Passed.{positionalFirst, namesApart, nameInside}
 use Rattle.cells.specs.Text.{partAt}
@@ -20,6 +21,8 @@ use Rattle.lookup.specs.declared.Finding.{Finding}
 use Rattle.lookup.specs.declared.Finding.the-variants.{At, Unknown}
 use Rattle.lookup.specs.Lookup.{findIn, OneFits}
 use Rattle.findings.specs.Resolved.{namedAt, NamedPair, Resolved}
+use Rattle.findings.specs.declared.resolve.Names.{Names}
+use Rattle.findings.specs.declared.resolve.Names.the-variants.{All, Repeated}
 
 -- the parameter that the pair at a cell names, by the columns
 unfoldable pub foundIn : List ℕ → List ℕ → List ℕ → List ℕ → ℕ → List ℕ → List ℕ → ℕ → Finding
@@ -85,7 +88,6 @@ pub record Pairs (area cells : List ℕ) (from count : ℕ) : Type 0 where
 pub record Naming (spec : List ℕ) (l : ParametersSpec) (cells area : List ℕ) (from count : ℕ) (sources rest : List ℕ) : Type 0 where
   pub list : Prepared spec l
   pub pairs : Pairs area cells from count
-  pub apart : differ (textsOf (pairsFrom area cells from count)) ≡ true
   pub empty : Resolved (parametersIn spec (l .params)) cells area [] sources rest 0
 
 -- the same against columns that are lent: they are those of such a list
@@ -93,8 +95,13 @@ pub record NamesLent (spec codes styles names : List ℕ) (len : ℕ) (cells are
   pub others : Others
   pub naming : Naming spec (lentList codes styles names len others) cells area from count sources rest
 
--- and against each such list that has these columns the names are resolved
-abbrev pub NamesResolved : (spec codes styles names : List ℕ) (len : ℕ) (cells area : List ℕ) (from count : ℕ) (sources rest sources₁ rest₁ : List ℕ) (r : ℕ) → Type 0
+-- the answer is that of 13, and without a refusal the names are resolved
+pub record NamesEnd (qs : List Parameter) (cells area : List ℕ) (written : List Named) (sources rest : List ℕ) (r : Names) : Type 0 where
+  pub all : (count : ℕ) → r ≡ All count → (differ (textsOf written) ≡ true) × Resolved qs cells area written sources rest count
+  pub repeated : r ≡ Repeated → differ (textsOf written) ≡ false
+
+-- what is promised holds of each such list that has these columns
+abbrev pub NamesResolved : (spec codes styles names : List ℕ) (len : ℕ) (cells area : List ℕ) (from count : ℕ) (sources rest sources₁ rest₁ : List ℕ) (r : Names) → Type 0
 NamesResolved spec codes styles names len cells area from count sources rest sources₁ rest₁ r =
     (o : Others) → Naming spec (lentList codes styles names len o) cells area from count sources rest
-    → Resolved (parametersIn spec (lentList codes styles names len o .params)) cells area (pairsFrom area cells from count) sources₁ rest₁ r
+    → NamesEnd (parametersIn spec (lentList codes styles names len o .params)) cells area (pairsFrom area cells from count) sources₁ rest₁ r

@@ -7,7 +7,7 @@ use cells::record::cell;
 use check::is_prepared;
 use collector::collect::Begun;
 use collector::collect::begin;
-use collector::collect::collect_slow;
+use collector::collect::collect_open;
 use load::indices_in;
 use load::load;
 use row::FRONT;
@@ -59,8 +59,8 @@ pub fn prepare(spec_cells: &[u64], spec: &[u8], out: &mut [u64]) -> Preparation
     Preparation::Written(FRONT + ROW * params.len)
 }
 
-// A call, of any cells and bytes, against cells that are handed over as a prepared list. The short path needs two numbers of the list, so only
-// the general path loads it.
+// A call, of any cells and bytes, against cells that are handed over as a prepared list. The short path needs two numbers of the list, so it is
+// loaded for calls that are left open alone.
 pub fn bind_prepared(
     prepared: &[u64],
     spec: &[u8],
@@ -80,7 +80,7 @@ pub fn bind_prepared(
         Begun::Ended(ended) => PreparedBound::Bound(ended),
         Begun::Open(h) => {
             let params = load(prepared);
-            PreparedBound::Bound(collect_slow(
+            PreparedBound::Bound(collect_open(
                 spec,
                 &params.codes,
                 &params.styles,

@@ -28,7 +28,7 @@ use Rattle.cells.proofs.LawsListed.{length-listed}
 use Rattle.calls.specs.Head.{namedFrom, entriesFrom}
 use Rattle.answers.specs.Answer.{answerIn, isRefusal}
 use Rattle.findings.specs.Resolved.{namedAt, Resolved}
-use Rattle.findings.specs.Resolve.{pairsFrom, Naming}
+use Rattle.findings.specs.Resolve.{pairsFrom}
 use Rattle.findings.specs.Found.{firstNamed, firstMissing}
 use Rattle.findings.specs.EntriesDone.{writtenNames, entryAt, entriesIn, entriesAnswer, EntriesReady, EntriesDone}
 use Rattle.questions.specs.Judge.{lostTo, missingAs, missingOr, remaindersAs, placedAs, judgedAnswer, refusing}
@@ -121,9 +121,6 @@ module _ (spec : List ℕ) (l : ParametersSpec) (cells area : List ℕ) (h : Hea
   pub next-few : next ≤ 64
   unfolding positionalCount
   next-few = omega (arith, ready .upto, tally-most qs, few-list spec l cells area (ready .list))
-
-  pub names-ready : (sources rest : List ℕ) → Resolved qs cells area [] sources rest 0 → Naming spec l cells area (namedFrom h) (h .n) sources rest
-  names-ready sources rest none-yet = record { list = ready .list; pairs = ready .pairs; apart = ready .apart; empty = none-yet }
 
   pub few-list-of : l .params .len ≤ 64
   few-list-of = ready .list .is-list .room

@@ -5,13 +5,12 @@ use mathlib.Core.List.{List}
 use Prim.Native.Nat.{ℕ, _+_, _*_, min, _<_}
 use lib.Dec.{eqb}
 use lib.ListN.{length, getD}
-use Rattle.rules.specs.Text.{differ}
 use Rattle.rules.specs.Value.{noValue, wellFormedKey}
 use Rattle.rules.specs.Answer.{Answer, _then_, ask}
 use Rattle.rules.specs.CallRecord.{Head, Call, Named, entriesOf, positionalsOf, namedOf}
 use Rattle.rules.specs.Parameters.{Parameter, positionalCount}
 use Rattle.rules.specs.Collection.{callOf}
-use Rattle.rules.specs.Binding.{textsOf, starPasses, doublePasses, askEntries, askPlaced}
+use Rattle.rules.specs.Binding.{starPasses, doublePasses, askEntries, askPlaced}
 use Rattle.cells.specs.Record.{pairAt}
 use Rattle.builder.specs.Params.{parametersIn}
 use Rattle.builder.specs.declared.spec.DefParamIndices.{DefParamIndices}
@@ -32,7 +31,7 @@ askAfterNames qs c =
     then askEntries qs (positionalsOf c) (c .named) (entriesOf (c .double))
     then askPlaced qs (positionalsOf c) (namedOf c)
 
--- a prepared list, and a record whose cells hold this call: what 9 to 13 give, with `next` slots filled from P
+-- a prepared list, and a record whose cells hold this call: what 9 to 12 give, with `next` slots filled from P
 pub record CallReady (spec : List ℕ) (l : ParametersSpec) (cells area : List ℕ) (h : Head) (next : ℕ) (c : Call) : Type 0 where
   pub list : Prepared spec l
   pub few : Few 64 h
@@ -40,7 +39,6 @@ pub record CallReady (spec : List ℕ) (l : ParametersSpec) (cells area : List �
   pub double : doublePasses (c .double) ≡ not (eqb (h .doubleKind) 2)
   pub written : c .named ≡ writtenNames area cells h
   pub pairs : Pairs area cells (namedFrom h) (h .n)
-  pub apart : differ (textsOf (writtenNames area cells h)) ≡ true
   pub entries : entriesOf (c .double) ≡ entriesIn area cells (entriesFrom h) 0 (h .d)
   pub keys-formed : (k : ℕ) → k < h .d → wellFormedKey area (pairAt cells (entriesFrom h + 4 * k)) ≡ true
   pub long : length (positionalsOf c) ≡ h .p + h .s

@@ -1,5 +1,5 @@
-// Questions 15 to 24 put to a call (01, binding), against a prepared list, which is lent by its columns: each name is resolved on the way,
-// and nothing is written but the two lent arrays that keep what was resolved. The order is that of judge.rt.
+// Questions 15 to 24 put to a call (01, binding), against a prepared list, which is lent by its columns: each entry is resolved on the way, after
+// the written names, and nothing is written but the two lent arrays that keep what was resolved. The order is that of judge.rt.
 // Reworked from starlark 0.14.2, src/eval/runtime/params/spec.rs (collect_slow), Apache-2.0.
 use crate::judge::Judged;
 use crate::judge::ask_placed;
@@ -8,19 +8,16 @@ use builder::params::CAPACITY;
 use builder::spec::DefParamIndices;
 use builder::spec::Index;
 use calls::head::Head;
-use calls::head::named_from;
 use findings::entries::Entries;
 use findings::entries::resolve_entries;
 use findings::found::first_named;
 use findings::resolve::NAMED;
-use findings::resolve::resolve_names;
-ghost use mathlib.Core.List.{[]};
 ghost use Rattle.rules.specs.Binding.{askBinding};
 ghost use Rattle.calls.specs.Head.{headOf};
 ghost use Rattle.findings.specs.EntriesDone.{writtenNames};
 ghost use Rattle.questions.specs.Questions.{askAfterNames, ListLent, JudgedLent};
 
-// All of them, with nothing resolved yet; the first `next` slots are filled by position, so names are looked for behind them first.
+// All of them, of a call whose written names are resolved; the first `next` slots are filled by position.
 pub fn judge<'a>(
     spec: &'a [u8],
     codes: &'a [u8; CAPACITY],
@@ -34,28 +31,14 @@ pub fn judge<'a>(
     next: usize,
     sources: &mut [usize; 64],
     rest: &mut [usize; NAMED],
+    before: usize,
 ) -> Judged
-    requires { ⌜ ListLent (now spec) (now codes) (now styles) (now names) len indices (now cells) (now area) (headOf h) next [] (now sources) (now rest) 0 ⌝ }
-    ensures { λ r. ⌜ JudgedLent (now (spec .entry)) (now (codes .entry)) (now (styles .entry)) (now (names .entry)) len indices (now (cells .entry)) (now (area .entry)) (headOf h) next [] (now (sources .entry)) (now (rest .entry)) 0 askBinding (now (sources .exit)) (now (rest .exit)) r ⌝ }
+    requires { ⌜ ListLent (now spec) (now codes) (now styles) (now names) len indices (now cells) (now area) (headOf h) next (writtenNames (now area) (now cells) (headOf h)) (now sources) (now rest) before ⌝ }
+    ensures { λ r. ⌜ JudgedLent (now (spec .entry)) (now (codes .entry)) (now (styles .entry)) (now (names .entry)) len indices (now (cells .entry)) (now (area .entry)) (headOf h) next (writtenNames (now (area .entry)) (now (cells .entry)) (headOf h)) (now (sources .entry)) (now (rest .entry)) before askBinding (now (sources .exit)) (now (rest .exit)) r ⌝ }
 {
     if h.star_kind == 2 {
         return Judged::Refused(Collected::ArgsArrayIsNotIterable);
     }
-    let from = named_from(h);
-    let count = resolve_names(
-        spec,
-        codes,
-        styles,
-        names,
-        len,
-        cells,
-        area,
-        from,
-        h.n,
-        next,
-        sources,
-        rest,
-    );
     let repeated = first_named(sources, next);
     match repeated {
         Index::At(i) => Judged::Refused(Collected::RepeatedParameter(names[i])),
@@ -72,7 +55,7 @@ pub fn judge<'a>(
             next,
             sources,
             rest,
-            count,
+            before,
         ),
     }
 }

@@ -1,21 +1,17 @@
--- `prepared::bind_prepared` meets its contract: cells that are no prepared list are refused; otherwise a call has ended after 9 to 14 and the
--- short path, or the rows are loaded and the general path ends it. Assumes nothing.
+-- `prepared::bind_prepared` meets its contract: cells that are no prepared list are refused; otherwise a call has ended after 9 to 12 and the
+-- short path, or the rows are loaded and what is left open is ended. Assumes nothing.
 use mathlib.Core.Path.{_≡_, refl, sym, subst, _∙_}
 use mathlib.Core.Bool.{true}
 use mathlib.Core.List.{List}
 use Prim.Native.Nat.{ℕ}
 use borrow.Author.Tests.{not-true, not-false}
 use lib.ListN.{getD}
-use Rattle.rules.specs.Collection.{callOf}
 use Rattle.cells.specs.Listed.{listed}
 use Rattle.builder.specs.Params.{parametersIn}
 use Rattle.builder.specs.Build.{IsList}
 use Rattle.builder.specs.declared.params.Parameters.{Parameters}
 use Rattle.builder.specs.declared.spec.ParametersSpec.{ParametersSpec}
-use Rattle.calls.specs.Head.{headOf}
-use Rattle.collector.specs.Collect.{Ends, bindingOf, Beginning}
-use Rattle.collector.proofs.LawsReady.{call-ready}
-use Rattle.collector.proofs.LawsEnds.{bound-binding}
+use Rattle.collector.specs.Collect.{Ends, boundTo, Beginning}
 use borrow.Author.Needs.{needs}
 use Rattle.prepared.specs.Prepared.{listIn, isPrepared}
 use Rattle.prepared.specs.Rows.{paramAt, Whole}
@@ -91,8 +87,8 @@ load-requires c κs =
     let a = startOf (told .before) .args in
     (whole told, prepared-narrow (a .spec .now) (a .prepared .now) (is-one told))
 
-collect-slow-requires : tie.Need-collect-slow-requires
-collect-slow-requires c κs =
+collect-open-requires : tie.Need-collect-open-requires
+collect-open-requires c κs =
     let loaded = c .before .before .before .before .before .before .before in
     let opened = loaded .before .before in
     let begun = opened .before .before .before .before in
@@ -101,10 +97,9 @@ collect-slow-requires c κs =
     let passed = beginning begun .left-open (opened .begun2 .given .0 .0) (opened .begun2 .given .1) in
     let l = listWith i (loaded .load .result) in
     record {
-      call =
-          call-ready (a .cells .now) (a .area .now) (headOf (opened .begun2 .given .0 .0)) (passed .0) (passed .1) (a .spec .now) l
-          (prepared-ready (a .spec .now) (a .prepared .now) (is-one (i .before .before)) l (is-list i (loaded .load .result) (loaded .load .ensures))) _ refl;
-      long = rw (passed .3) (passed .2);
+      list = prepared-ready (a .spec .now) (a .prepared .now) (is-one (i .before .before)) l (is-list i (loaded .load .result) (loaded .load .ensures));
+      read = passed .0;
+      passed = passed .1;
     }
 
 same-length : tie.Need-same-length
@@ -133,11 +128,9 @@ returns-3 c =
     let passed = beginning begun .left-open (opened .begun2 .given .0 .0) (opened .begun2 .given .1) in
     let l = listWith i (loaded .load .result) in
     let qs = parametersIn (a .spec .now) (l .params) in
-    let call = callOf (a .cells .now) (a .area .now) in
-    let after = ended .collect-slow .last .1 .1 .1 .1 .1 .1 .1 .1 .1 .1 .1 .0 in
-    prepared-ends (a .spec .now) (a .prepared .now) (is-one (i .before .before)) l (is-list i (loaded .load .result) (loaded .load .ensures)) (a .cells .now) (a .area .now) (a .board .now) after (ended .collect-slow .result)
-    (subst (λ o. Ends o (a .board .now) after (ended .collect-slow .result)) (sym (bound-binding qs (a .cells .now) (a .area .now) (a .board .now) (passed .1) (passed .2)))
-    (subst (λ b. Ends (bindingOf qs call b) b after (ended .collect-slow .result)) (passed .3) (ended .collect-slow .ensures)))
+    let after = ended .collect-open .last .1 .1 .1 .1 .1 .1 .1 .1 .1 .1 .1 .0 in
+    prepared-ends (a .spec .now) (a .prepared .now) (is-one (i .before .before)) l (is-list i (loaded .load .result) (loaded .load .ensures)) (a .cells .now) (a .area .now) (a .board .now) after (ended .collect-open .result)
+    (subst (λ b. Ends (boundTo qs (a .cells .now) (a .area .now) b) b after (ended .collect-open .result)) (passed .2) (ended .collect-open .ensures))
 
 pub bind-prepared-spec : {M : Type 1} → statement M
 bind-prepared-spec =
@@ -151,7 +144,7 @@ bind-prepared-spec =
     enum-known-begun
     enum-known-begun-2
     load-requires
-    collect-slow-requires
+    collect-open-requires
     same-length
     returns-2
     same-length-2

@@ -1,12 +1,8 @@
--- `collector::collect::bind` meets its contract: a call has ended after 9 to 14 and the short path, or it is ready for the general path, which
--- ends as the call's outcome says. Assumes nothing.
-use mathlib.Core.Path.{refl, sym, subst}
-use Rattle.rules.specs.Collection.{callOf}
+-- `collector::collect::bind` meets its contract: a call has ended after 9 to 12 and the short path, or what is left open ends as the call's
+-- outcome says. Assumes nothing.
+use mathlib.Core.Path.{refl, subst}
 use Rattle.builder.specs.Params.{parametersIn}
-use Rattle.calls.specs.Head.{headOf}
-use Rattle.collector.specs.Collect.{Ends, bindingOf, Beginning}
-use Rattle.collector.proofs.LawsReady.{call-ready}
-use Rattle.collector.proofs.LawsEnds.{bound-binding}
+use Rattle.collector.specs.Collect.{Ends, boundTo, Beginning}
 use borrow.Author.Needs.{needs}
 use Rattle.collector.proofs.collect.bind.Statement.{statement}
 use Rattle.collector.proofs.collect.bind.Tie as tie
@@ -27,17 +23,12 @@ enum-known-begun c = search needs
 enum-known-begun-2 : tie.Need-enum-known-begun-2
 enum-known-begun-2 c = search needs
 
-collect-slow-requires : tie.Need-collect-slow-requires
-collect-slow-requires c κs =
+collect-open-requires : tie.Need-collect-open-requires
+collect-open-requires c κs =
     let opened = c .before .before .before .before .before .before .before .before in
     let begun = opened .before .before .before .before in
-    let start = startOf begun in
-    let a = start .args in
     let passed = beginning begun .left-open (opened .begun2 .given .0 .0) (opened .begun2 .given .1) in
-    record {
-      call = call-ready (a .cells .now) (a .area .now) (headOf (opened .begun2 .given .0 .0)) (passed .0) (passed .1) (a .spec .now) (a .t1) (start .pre) _ refl;
-      long = rw (passed .3) (passed .2);
-    }
+    record { list = startOf begun .pre; read = passed .0; passed = passed .1 }
 
 same-length : tie.Need-same-length
 same-length c = search needs
@@ -58,10 +49,8 @@ returns-2 c =
     let a = startOf begun .args in
     let passed = beginning begun .left-open (opened .begun2 .given .0 .0) (opened .begun2 .given .1) in
     let qs = parametersIn (a .spec .now) (a .t1 .params) in
-    let call = callOf (a .cells .now) (a .area .now) in
-    let after = ended .collect-slow .last .1 .1 .1 .1 .1 .1 .1 .1 .1 .1 .1 .0 in
-    subst (λ o. Ends o (a .board .now) after (ended .collect-slow .result)) (sym (bound-binding qs (a .cells .now) (a .area .now) (a .board .now) (passed .1) (passed .2)))
-    (subst (λ b. Ends (bindingOf qs call b) b after (ended .collect-slow .result)) (passed .3) (ended .collect-slow .ensures))
+    let after = ended .collect-open .last .1 .1 .1 .1 .1 .1 .1 .1 .1 .1 .1 .0 in
+    subst (λ b. Ends (boundTo qs (a .cells .now) (a .area .now) b) b after (ended .collect-open .result)) (passed .2) (ended .collect-open .ensures)
 
 pub bind-spec : {M : Type 1} → statement M
 bind-spec =
@@ -70,7 +59,7 @@ bind-spec =
     begin-requires
     enum-known-begun
     enum-known-begun-2
-    collect-slow-requires
+    collect-open-requires
     same-length
     returns
     same-length-2
