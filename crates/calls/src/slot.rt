@@ -11,7 +11,7 @@ ghost use Rattle.calls.specs.Runs.{keyThere, nameThere};
 ghost use Rattle.calls.specs.Slots.{slotOf, keySlot};
 
 // Enough that few of 64 names share a slot. A prime, so that each byte of a number counts in its remainder; and one for which two bytes side by
-// side do not make up for each other unless one of them is off by 29: names that differ in two digits have slots of their own.
+// side do not make up for each other unless one of them is off by 29 or more: names that differ in two digits have slots of their own.
 pub(crate) const SLOTS: usize = 929;
 
 // The slot of the name at an index.

@@ -3,7 +3,7 @@ use crate::head::HEAD;
 use crate::head::Head;
 use crate::head::VALUE;
 use crate::place::position_at;
-use cells::out::put;
+use cells::out::put_inside;
 use cells::record::pair_at;
 ghost use mathlib.Core.Path.{_≡_};
 ghost use Prim.Native.Nat.{_+_, _*_, _≤_};
@@ -22,7 +22,7 @@ pub fn write_values(cells: &[u64], h: Head, from: usize, count: usize, at: usize
     let mut k = 0;
     while k < count {
         let position = position_at(h, from + k);
-        put(board, at + VALUE * k, pair_at(cells, position));
+        put_inside(board, at + VALUE * k, pair_at(cells, position));
         k += 1;
     }
 }

@@ -14,7 +14,7 @@ use borrow.Author.Tests.{eqb-true, eq-eqb, leb-true, le-leb}
 use Rattle.rules.specs.Text.{sameBytes, startOf, sizeOf, bytesAt, inside}
 use Rattle.rules.proofs.LawsListing.{and-right, and-both, same-test}
 use Rattle.rules.proofs.LawsText.{sameBytes-eq, eq-sameBytes}
-use Rattle.cells.specs.Text.{partAt, keyFrom, keyOf, lastKey, IsWord, Short}
+use Rattle.cells.specs.Text.{partAt, keyFrom, keyOf, lastKey, IsWord, HasWord}
 
 -- ---- leading and last bytes
 
@@ -148,11 +148,11 @@ pub part-inside : (area : List ℕ) (payload : ℕ) → inside area payload ≡ 
 unfolding partAt
 part-inside area payload e = rw e
 
-pub short-inside : (area : List ℕ) (payload size : ℕ) → Short area payload size → inside area payload ≡ true
+pub short-inside : (area : List ℕ) (payload : ℕ) → HasWord area payload → sizeOf payload ≤ 8 → inside area payload ≡ true
 unfolding inside
-short-inside area payload size s =
-    and-both (leb (startOf payload) 65535) (leb (startOf payload + sizeOf payload) (length area)) (le-leb (startOf payload) 65535 (s .low))
-    (le-leb (startOf payload + sizeOf payload) (length area) (omega (arith, s .sized, s .few, s .room)))
+short-inside area payload has few =
+    and-both (leb (startOf payload) 65535) (leb (startOf payload + sizeOf payload) (length area)) (le-leb (startOf payload) 65535 (has .low))
+    (le-leb (startOf payload + sizeOf payload) (length area) (omega (arith, has .room)))
 
 pub bytes-few : (area : List ℕ) (payload : ℕ) → payload % 256 ≤ 8 → length (bytesAt area payload) ≤ 8
 unfolding bytesAt sizeOf

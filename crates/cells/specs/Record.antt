@@ -3,20 +3,12 @@ use mathlib.Core.List.{List}
 use Prim.Native.Nat.{ℕ}
 use lib.ListN.{drop}
 use Rattle.rules.specs.Value as rules
-use Rattle.cells.specs.Value.{readArgument, readName, readKey}
-use Rattle.cells.specs.declared.text.ReadText.{ReadText}
-use Rattle.cells.specs.declared.value.ReadValue.{ReadValue}
+use Rattle.cells.specs.Value.{readKey}
 use Rattle.cells.specs.declared.value.ReadKey.{ReadKey}
 
 unfoldable pub pairAt : List ℕ → ℕ → rules.Value
 pairAt cells at = rules.readValue (drop at cells)
 
--- a value of a call, a name and a key
-unfoldable pub argumentAt : List ℕ → List ℕ → ℕ → ReadValue
-argumentAt area cells at = readArgument area (pairAt cells at .kind) (pairAt cells at .payload)
-
-unfoldable pub nameAt : List ℕ → List ℕ → ℕ → ReadText
-nameAt area cells at = readName area (pairAt cells at .kind) (pairAt cells at .payload)
-
+-- a key
 unfoldable pub keyAt : List ℕ → List ℕ → ℕ → ReadKey
 keyAt area cells at = readKey area (pairAt cells at .kind) (pairAt cells at .payload)

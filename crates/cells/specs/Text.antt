@@ -38,11 +38,8 @@ pub record IsWord (bytes : List ℕ) (word : ℕ) : Type 0 where
   pub key : word ≡ keyOf bytes
   pub byte : (j : ℕ) → getD bytes j 0 < 256
 
--- the text of a payload has `size` bytes, one to eight, and its area has eight where it starts
-pub record Short (area : List ℕ) (payload size : ℕ) : Type 0 where
-  pub sized : sizeOf payload ≡ size
-  pub some : 1 ≤ size
-  pub few : size ≤ 8
+-- a text may start where the payload says, and its area has eight bytes from there on
+pub record HasWord (area : List ℕ) (payload : ℕ) : Type 0 where
   pub low : startOf payload ≤ 65535
   pub room : startOf payload + 8 ≤ length area
 

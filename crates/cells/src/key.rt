@@ -7,7 +7,7 @@ ghost use mathlib.Core.Bool.{true};
 ghost use Prim.Native.Nat.{_+_, _≤_};
 ghost use lib.ListN.{length, take, drop};
 ghost use Rattle.rules.specs.Text.{sameBytes, inside, bytesAt};
-ghost use Rattle.cells.specs.Text.{keyOf, lastKey, IsWord, Short, ShortSame};
+ghost use Rattle.cells.specs.Text.{keyOf, lastKey, IsWord, HasWord, ShortSame};
 
 // The eight bytes from an index on. Unrolled, the loop is one load.
 fn word_at(area: &[u8], at: usize) -> u64
@@ -60,28 +60,28 @@ pub fn short_same(a: &[u8], x: u64, b: &[u8], y: u64) -> bool
     ensures { λ r. ⌜ (r ≡ true → ShortSame (now (a .entry)) x (now (b .entry)) y) ⌝ }
 {
     let len = (x % 256) as usize;
-    if !is_short(a, x, len) {
-        return false;
-    }
-    if !is_short(b, y, len) {
-        return false;
-    }
-    same_bytes(a, (x / 256) as usize, b, (y / 256) as usize, len)
-}
-
-// Has the text of this payload `len` bytes, no more than a number holds, and can as many as that be read where it starts?
-fn is_short(area: &[u8], payload: u64, len: usize) -> bool
-    ensures { λ r. ⌜ (r ≡ true → Short (now (area .entry)) payload len) ⌝ }
-{
-    if (payload % 256) as usize != len {
-        return false;
-    }
     if len == 0 {
         return false;
     }
     if 8 < len {
         return false;
     }
+    if (y % 256) as usize != len {
+        return false;
+    }
+    if !has_word(a, x) {
+        return false;
+    }
+    if !has_word(b, y) {
+        return false;
+    }
+    same_bytes(a, (x / 256) as usize, b, (y / 256) as usize, len)
+}
+
+// Can eight bytes be read where the text of this payload starts, and may a text start there?
+fn has_word(area: &[u8], payload: u64) -> bool
+    ensures { λ r. ⌜ (r ≡ true → HasWord (now (area .entry)) payload) ⌝ }
+{
     if 65535 < payload / 256 {
         return false;
     }

@@ -17,6 +17,14 @@ pub fn put(out: &mut [u64], at: usize, pair: Pair)
     if out.len() - 2 < at {
         return;
     }
+    put_inside(out, at, pair);
+}
+
+// The same where both are known to be inside.
+pub fn put_inside(out: &mut [u64], at: usize, pair: Pair)
+    requires { ⌜ at + 2 ≤ length (now out) ⌝ }
+    ensures { λ _. ⌜ now (out .exit) ≡ stored (now (out .entry)) at (valueCells (pairOf pair)) ⌝ }
+{
     out[at] = pair.kind;
     out[at + 1] = pair.payload;
 }

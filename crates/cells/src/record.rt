@@ -1,16 +1,12 @@
 // Reading out of a record's cells (01, cells, texts and records). Nothing is indexed before it is known to be inside: a cell
 // past the end reads as 0, which is no kind.
-use crate::text::ReadText;
 use crate::value::Pair;
 use crate::value::ReadKey;
-use crate::value::ReadValue;
-use crate::value::read_argument;
 use crate::value::read_key;
-use crate::value::read_name;
 ghost use mathlib.Core.Path.{_≡_};
 ghost use lib.ListN.{getD};
 ghost use Rattle.cells.specs.Value.{pairOf};
-ghost use Rattle.cells.specs.Record.{pairAt, argumentAt, nameAt, keyAt};
+ghost use Rattle.cells.specs.Record.{pairAt, keyAt};
 
 pub fn cell(cells: &[u64], at: usize) -> u64
     ensures { λ r. ⌜ r ≡ getD (now (cells .entry)) at 0 ⌝ }
@@ -29,20 +25,6 @@ pub fn pair_at(cells: &[u64], at: usize) -> Pair
         return Pair::new(cells[at], cell(cells, at + 1));
     }
     Pair::new(0, 0)
-}
-
-pub fn value_at(area: &[u8], cells: &[u64], at: usize) -> ReadValue
-    ensures { λ r. ⌜ r ≡ argumentAt (now (area .entry)) (now (cells .entry)) at ⌝ }
-{
-    let pair = pair_at(cells, at);
-    read_argument(area, pair.kind, pair.payload)
-}
-
-pub fn name_at(area: &[u8], cells: &[u64], at: usize) -> ReadText
-    ensures { λ r. ⌜ r ≡ nameAt (now (area .entry)) (now (cells .entry)) at ⌝ }
-{
-    let pair = pair_at(cells, at);
-    read_name(area, pair.kind, pair.payload)
 }
 
 pub fn key_at(area: &[u8], cells: &[u64], at: usize) -> ReadKey

@@ -25,7 +25,7 @@ use Rattle.calls.specs.Runs.{pairsAt}
 use Rattle.cells.proofs.LawsListed.{all-at}
 use Rattle.calls.proofs.LawsEach.{each-length, each-at, each-map}
 use Rattle.calls.proofs.LawsForm.{entry-key}
-use Rattle.calls.proofs.LawsCall.{names-by, lengths-few, positionals-within, formed-entries, form-lengths, form-kinds, form-parts}
+use Rattle.calls.proofs.LawsCall.{names-by, lengths-few, positionals-within, named-within, formed-entries, form-lengths, form-kinds, form-parts}
 use Rattle.calls.proofs.LawsPlaces.{named-run, entries-run, positionals-length, star-passes, double-passes, positional-at}
 use Rattle.findings.specs.Resolved.{namedAt}
 use Rattle.findings.specs.Resolve.{Prepared, Pairs}
@@ -74,11 +74,17 @@ module _ (cells area : List ℕ) (h : Head) (read : h ≡ readHead cells) (form 
   unfolding namedAt
   written = named-run area cells h read ten ∙ run-listed (namedIn area) cells (namedFrom h) (h .n)
 
+  -- its written names are all there
+  named-there : namedFrom h + 4 * h .n ≤ length cells
+  unfolding pairWidth
+  named-there = named-within cells h read 64 nine
+
   pub pairs : Pairs area cells (namedFrom h) (h .n)
   pairs =
       record {
         few = call-few .few-n;
         near = named-near h call-few;
+        within = named-there;
         named = λ k below.
             record {
               near = omega (arith, named-near h call-few, call-few .few-n);

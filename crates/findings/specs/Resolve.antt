@@ -3,7 +3,7 @@ use mathlib.Core.Path.{_≡_}
 use mathlib.Core.Bool.{true, false}
 use mathlib.Core.List.{List, []}
 use Prim.Native.Nat.{ℕ, _+_, _*_, _<_, _≤_}
-use lib.ListN.{set}
+use lib.ListN.{length, set}
 use Rattle.rules.specs.Listing.{all}
 use Rattle.rules.specs.Text.{differ}
 use Rattle.rules.specs.CallRecord.{Named}
@@ -78,10 +78,11 @@ lentList codes styles names len o =
 abbrev pub pairsFrom : List ℕ → List ℕ → ℕ → ℕ → List Named
 pairsFrom area cells from count = listed (λ k. namedAt area cells (from + 4 * k)) 0 count
 
--- pairs whose names are known to be texts inside the area
+-- pairs that are all there, whose names are known to be texts inside the area
 pub record Pairs (area cells : List ℕ) (from count : ℕ) : Type 0 where
   pub few : count ≤ 64
   pub near : from ≤ 1024
+  pub within : from + 4 * count ≤ length cells
   pub named : (k : ℕ) → k < count → NamedPair area cells (from + 4 * k)
 
 -- written pairs against a prepared list, with nothing resolved yet

@@ -6,9 +6,11 @@ use builder::params::CAPACITY;
 use cells::record::pair_at;
 use cells::text::part;
 use lookup::Finding;
+use lookup::find_from;
 use lookup::find_near;
 ghost use mathlib.Core.Path.{_≡_};
 ghost use Prim.Native.Nat.{_+_, _*_, _<_, _≤_, _^_};
+ghost use lib.ListN.{length};
 ghost use Rattle.cells.specs.Text.{partAt};
 ghost use Rattle.cells.specs.Record.{pairAt};
 ghost use Rattle.findings.specs.Resolve.{Below, OneEach, foundIn, sourcesAfter, restAfter, countAfter, NamesLent, NamesResolved};
@@ -33,7 +35,33 @@ pub fn found_at<'a>(
     ensures { λ r. ⌜ r ≡ foundIn (now (spec .entry)) (now (codes .entry)) (now (styles .entry)) (now (names .entry)) len (now (area .entry)) (now (cells .entry)) pair ⌝ }
 {
     let key = pair_at(cells, pair);
-    find_near(spec, codes, styles, names, len, near, area, key.payload)
+    find_from(
+        spec,
+        codes,
+        styles,
+        names,
+        len,
+        near,
+        part(area, key.payload),
+    )
+}
+
+// The same of a pair that is there, with the guess tried first. Called from one loop alone, so that the compiler makes it part of the loop.
+fn found_near<'a>(
+    spec: &'a [u8],
+    codes: &'a [u8; CAPACITY],
+    styles: &'a [u8; CAPACITY],
+    names: &'a [u64; CAPACITY],
+    len: usize,
+    cells: &[u64],
+    area: &[u8],
+    pair: usize,
+    near: usize,
+) -> Finding
+    requires { ⌜ OneEach (now spec) (now codes) (now styles) (now names) len × (pair + 1 < length (now cells)) ⌝ }
+    ensures { λ r. ⌜ r ≡ foundIn (now (spec .entry)) (now (codes .entry)) (now (styles .entry)) (now (names .entry)) len (now (area .entry)) (now (cells .entry)) pair ⌝ }
+{
+    find_near(spec, codes, styles, names, len, near, area, cells[pair + 1])
 }
 
 // The pair's value fills the slot that is found, or the pair joins the remainder. How many pairs the remainder then has.
@@ -123,7 +151,7 @@ pub fn resolve_names<'a>(
     let mut k = 0;
     while k < n {
         let pair = from + 4 * k;
-        let found = found_at(spec, codes, styles, names, len, cells, area, pair, guess);
+        let found = found_near(spec, codes, styles, names, len, cells, area, pair, guess);
         if repeats(found, cells, area, pair, sources, rest, count) {
             return Names::Repeated;
         }

@@ -6,7 +6,7 @@ use calls::head::Head;
 use calls::head::PAIR;
 use calls::head::VALUE;
 use calls::values::write_values;
-use cells::out::put;
+use cells::out::put_inside;
 use cells::record::pair_at;
 use findings::resolve::NAMED;
 ghost use mathlib.Core.Path.{_≡_};
@@ -82,8 +82,8 @@ pub fn write_named(cells: &[u64], rest: &[usize; NAMED], count: usize, at: usize
     while k < count {
         let pair = rest[k];
         let to = at + PAIR * k;
-        put(board, to, pair_at(cells, pair));
-        put(board, to + VALUE, pair_at(cells, pair + VALUE));
+        put_inside(board, to, pair_at(cells, pair));
+        put_inside(board, to + VALUE, pair_at(cells, pair + VALUE));
         k += 1;
     }
 }

@@ -2,7 +2,7 @@
 // Reworked from starlark 0.14.2, src/eval/runtime/params/spec.rs (collect_slow), Apache-2.0.
 use calls::head::Head;
 use calls::place::position_at;
-use cells::out::put;
+use cells::out::put_inside;
 use cells::record::pair_at;
 use cells::value::Pair;
 ghost use mathlib.Core.Path.{_≡_};
@@ -132,7 +132,7 @@ pub fn write_slots<'a>(
         let slot = slot_at(codes, kinds, payloads, sources, cells, h, next, k);
         taken += slot.taken();
         defaulted += slot.defaulted();
-        put(board, 2 * k, slot.pair(star, named));
+        put_inside(board, 2 * k, slot.pair(star, named));
         k += 1;
     }
     Filled { taken, defaulted }

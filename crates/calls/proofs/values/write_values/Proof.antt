@@ -29,17 +29,17 @@ add-position-at c = search needs
 position-at-requires : tie.Need-position-at-requires Inv-loop μ-loop
 position-at-requires c κs = search needs
 
-mul-put : tie.Need-mul-put Inv-loop μ-loop
-mul-put c = search needs
+mul-put-inside : tie.Need-mul-put-inside Inv-loop μ-loop
+mul-put-inside c = search needs
 
-add-put : tie.Need-add-put Inv-loop μ-loop
-add-put c = search needs
+add-put-inside : tie.Need-add-put-inside Inv-loop μ-loop
+add-put-inside c = search needs
 
 pair-at-requires : tie.Need-pair-at-requires Inv-loop μ-loop
 pair-at-requires c κs = search needs
 
-put-requires : tie.Need-put-requires Inv-loop μ-loop
-put-requires c κs = search needs
+put-inside-requires : tie.Need-put-inside-requires Inv-loop μ-loop
+put-inside-requires c κs = search needs
 
 add-k : tie.Need-add-k Inv-loop μ-loop
 add-k c = search needs
@@ -54,8 +54,8 @@ loop-again c =
     let a = start .args in
     let at = c .before .before .before .before .before .before .before .loop in (
       search needs,
-      c .before .before .put .kept .0 ∙ at .inv .1,
-      c .before .before .put .ensures
+      c .before .before .put-inside .kept .0 ∙ at .inv .1,
+      c .before .before .put-inside .ensures
           ∙ ap₂ (λ b v. stored b (a .at + 2 * at .k) (valueCells v)) (at .inv .2) (c .before .before .before .pair-at .ensures ∙ ap (pairAt (a .cells .now)) (c .before .before .before .before .before .position-at .ensures))
           ∙ written-more 2 valueCells valueCells-two (positionalAt (a .cells .now) (headOf (a .h))) (a .from) (at .k) (a .at) (a .board .now) (omega (arith, start .pre .1)),
     )
@@ -79,10 +79,10 @@ write-values-spec =
     loop-holds
     add-position-at
     position-at-requires
-    mul-put
-    add-put
+    mul-put-inside
+    add-put-inside
     pair-at-requires
-    put-requires
+    put-inside-requires
     add-k
     loop-less
     loop-again

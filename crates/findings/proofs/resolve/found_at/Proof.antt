@@ -10,17 +10,19 @@ use Rattle.findings.proofs.resolve.found_at.Tie as tie
 pair-at-requires : tie.Need-pair-at-requires
 pair-at-requires c κs = search needs
 
-find-near-requires : tie.Need-find-near-requires
-find-near-requires c κs =
-    let start = c .before .before .before .before in
-    start .pre (partAt (start .args .area .now) (c .pair-at .result .payload))
+part-requires : tie.Need-part-requires
+part-requires c κs = search needs
+
+find-from-requires : tie.Need-find-from-requires
+find-from-requires c κs = c .before .before .before .before .before .pre (c .part .result .now)
 
 returns : tie.Need-returns
 unfolding foundIn
 returns c =
-    let a = c .before .before .before .before .before .args in
-    c .find-near .ensures
-    ∙ ap (λ v. findIn (a .spec .now) (a .codes .now) (a .styles .now) (a .names .now) (a .len) (partAt (a .area .now) (v .payload))) (c .before .pair-at .ensures)
+    let a = c .before .before .before .before .before .before .args in
+    c .find-from .ensures
+    ∙ ap (findIn (a .spec .now) (a .codes .now) (a .styles .now) (a .names .now) (a .len))
+    (c .before .part .ensures ∙ ap (λ v. partAt (a .area .now) (v .payload)) (c .before .before .pair-at .ensures))
 
 pub found-at-spec : {M : Type 1} → statement M
-found-at-spec = tie.close (tie.spec pair-at-requires find-near-requires returns)
+found-at-spec = tie.close (tie.spec pair-at-requires part-requires find-from-requires returns)

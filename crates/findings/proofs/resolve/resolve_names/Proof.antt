@@ -51,17 +51,19 @@ add-pair c =
     let start = startOf (c .before) in
     omega (arith, start .pre .naming .pairs .few, start .pre .naming .pairs .near)
 
-found-at-requires : tie.Need-found-at-requires Inv-loop μ-loop
-found-at-requires c κs =
-    let start = startOf (c .before) in
-    one-each (start .args .spec .now) (theirs start) (start .args .cells .now) (start .args .area .now) (start .pre .naming .list)
+found-near-requires : tie.Need-found-near-requires Inv-loop μ-loop
+found-near-requires c κs =
+    let start = startOf (c .before) in (
+      one-each (start .args .spec .now) (theirs start) (start .args .cells .now) (start .args .area .now) (start .pre .naming .list),
+      omega (arith, start .pre .naming .pairs .within, c .loop-test .taken),
+    )
 
 -- an index that is found is one of a slot
-found-below : (c : tie.After-found-at Inv-loop μ-loop) → Below 64 (c .found-at .result)
+found-below : (c : tie.After-found-near Inv-loop μ-loop) → Below 64 (c .found-near .result)
 found-below c =
     let start = startOf (c .before .before) in
     let a = start .args in
-    subst (Below 64) (sym (c .found-at .ensures))
+    subst (Below 64) (sym (c .found-near .ensures))
     (naming-below (a .spec .now) (theirs start) (a .cells .now) (a .area .now) (a .from) (a .n) (a .sources .now) (a .rest .now) (start .pre .naming) (c .before .before .loop .k) (c .before .loop-test .taken))
 
 repeats-requires : tie.Need-repeats-requires Inv-loop μ-loop
@@ -85,7 +87,7 @@ tested c o naming =
     let start = startOf (found .before .before) in
     let a = start .args in
     c .repeats .ensures
-    ∙ ap (λ f. repeatsBy f (at .sources) (heldNames (a .area .now) (a .cells .now) (at .rest) (at .count)) (partAt (a .area .now) (pairAt (a .cells .now) (a .from + 4 * at .k) .payload))) (found .found-at .ensures)
+    ∙ ap (λ f. repeatsBy f (at .sources) (heldNames (a .area .now) (a .cells .now) (at .rest) (at .count)) (partAt (a .area .now) (pairAt (a .cells .now) (a .from + 4 * at .k) .payload))) (found .found-near .ensures)
     ∙ naming-repeats (a .spec .now) (listFor start o) (a .cells .now) (a .area .now) (a .from) (a .n) (a .sources .now) (a .rest .now) naming (at .k) (found .before .loop-test .taken) (at .sources) (at .rest) (at .count) (at .inv .1 o naming .1)
 
 returns : tie.Need-returns Inv-loop μ-loop
@@ -132,7 +134,7 @@ loop-again c =
           let so-far = at .inv .1 o naming in
           let fresh = sym (tested (asked .before) o naming) ∙ asked .if1 .left in (
             naming-differ (a .spec .now) (listFor start o) (a .cells .now) (a .area .now) (a .from) (a .n) (a .sources .now) (a .rest .now) naming (at .k) below (so-far .0) fresh,
-            rw (c .enter .ensures .0, c .enter .ensures .1 .0, c .enter .ensures .1 .1, found .found-at .ensures)
+            rw (c .enter .ensures .0, c .enter .ensures .1 .0, c .enter .ensures .1 .1, found .found-near .ensures)
                 (naming-step (a .spec .now) (listFor start o) (a .cells .now) (a .area .now) (a .from) (a .n) (a .sources .now) (a .rest .now) naming (at .k) below (at .sources) (at .rest) (at .count) (so-far .1) fresh),
           ),
     )
@@ -161,7 +163,7 @@ resolve-names-spec =
     loop-holds
     mul-pair
     add-pair
-    found-at-requires
+    found-near-requires
     repeats-requires
     returns
     behind-requires

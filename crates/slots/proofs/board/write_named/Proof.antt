@@ -40,11 +40,11 @@ add-to c = search needs
 pair-at-requires : tie.Need-pair-at-requires Inv-loop μ-loop
 pair-at-requires c κs = search needs
 
-put-requires : tie.Need-put-requires Inv-loop μ-loop
-put-requires c κs = search needs
+put-inside-requires : tie.Need-put-inside-requires Inv-loop μ-loop
+put-inside-requires c κs = search needs
 
-add-put : tie.Need-add-put Inv-loop μ-loop
-add-put c = search needs
+add-put-inside : tie.Need-add-put-inside Inv-loop μ-loop
+add-put-inside c = search needs
 
 add-pair-at : tie.Need-add-pair-at Inv-loop μ-loop
 add-pair-at c = omega (arith, c .before .before .before .before .before .before .before .before .before .before .before .pre .0 .near (c .before .before .before .before .before .before .before .before .loop .k) (search needs))
@@ -52,8 +52,8 @@ add-pair-at c = omega (arith, c .before .before .before .before .before .before 
 pair-at-requires-2 : tie.Need-pair-at-requires-2 Inv-loop μ-loop
 pair-at-requires-2 c κs = search needs
 
-put-requires-2 : tie.Need-put-requires-2 Inv-loop μ-loop
-put-requires-2 c κs = search needs
+put-inside-requires-2 : tie.Need-put-inside-requires-2 Inv-loop μ-loop
+put-inside-requires-2 c κs = search needs
 
 add-k : tie.Need-add-k Inv-loop μ-loop
 add-k c = search needs
@@ -68,11 +68,11 @@ loop-again c =
     let at = c .before .before .before .before .before .before .before .before .before .before .before .before .loop in
     let k = at .k in (
       search needs,
-      c .before .before .put2 .kept .0 ∙ c .before .before .before .before .before .before .before .put .kept .0 ∙ at .inv .1,
+      c .before .before .put-inside2 .kept .0 ∙ c .before .before .before .before .before .before .before .put-inside .kept .0 ∙ at .inv .1,
       λ area.
-          c .before .before .put2 .ensures
+          c .before .before .put-inside2 .ensures
           ∙ ap₂ (λ b v. stored b (a .at + 4 * k + 2) (valueCells v))
-          (c .before .before .before .before .before .before .before .put .ensures ∙ ap (λ v. stored (at .board) (a .at + 4 * k) (valueCells v)) (c .before .before .before .before .before .before .before .before .pair-at .ensures))
+          (c .before .before .before .before .before .before .before .put-inside .ensures ∙ ap (λ v. stored (at .board) (a .at + 4 * k) (valueCells v)) (c .before .before .before .before .before .before .before .before .pair-at .ensures))
           (c .before .before .before .pair-at2 .ensures)
           ∙ named-more area (a .cells .now) (a .rest .now) k (a .at) (a .board .now) (at .board) (start .pre .0 .text k (search needs)) (omega (arith, start .pre .1)) (at .inv .2 area) (at .inv .1),
     )
@@ -104,11 +104,11 @@ write-named-spec =
     mul-to
     add-to
     pair-at-requires
-    put-requires
-    add-put
+    put-inside-requires
+    add-put-inside
     add-pair-at
     pair-at-requires-2
-    put-requires-2
+    put-inside-requires-2
     add-k
     loop-less
     loop-again

@@ -40,14 +40,14 @@ defaulted-requires c κs = search needs
 add-defaulted : tie.Need-add-defaulted Inv-loop μ-loop
 add-defaulted c = omega (arith, c .defaulted .ensures, at-most-one (isDefaulted (slotIn (c .before .before .slot-at .result) 0 0)))
 
-mul-put : tie.Need-mul-put Inv-loop μ-loop
-mul-put c = search needs
+mul-put-inside : tie.Need-mul-put-inside Inv-loop μ-loop
+mul-put-inside c = search needs
 
 pair-requires : tie.Need-pair-requires Inv-loop μ-loop
 pair-requires c κs = search needs
 
-put-requires : tie.Need-put-requires Inv-loop μ-loop
-put-requires c κs = search needs
+put-inside-requires : tie.Need-put-inside-requires Inv-loop μ-loop
+put-inside-requires c κs = search needs
 
 add-k : tie.Need-add-k Inv-loop μ-loop
 add-k c = search needs
@@ -68,8 +68,8 @@ loop-again c =
       search needs,
       omega (arith, c .before .before .before .before .before .before .taken .ensures, at-most-one (isTaken (slotIn slot 0 0))),
       omega (arith, c .before .before .before .before .before .defaulted .ensures, at-most-one (isDefaulted (slotIn slot 0 0))),
-      c .before .before .put .kept .0 ∙ at .inv .3,
-      rw (c .before .before .put .ensures, c .before .before .before .pair .ensures, is)
+      c .before .before .put-inside .kept .0 ∙ at .inv .3,
+      rw (c .before .before .put-inside .ensures, c .before .before .before .pair .ensures, is)
           (filling-more (λ k. slotAt (a .codes .now) (a .kinds .now) (a .payloads .now) (a .sources .now) (a .cells .now) (headOf (a .h)) (a .next) k (a .star) (a .named)) (at .k) (a .board .now) (at .board) (at .taken) (at .defaulted)
           (c .before .before .before .before .before .before .taken .result) (c .before .before .before .before .before .defaulted .result) (at .inv .4) (omega (arith, start .pre .0, start .pre .1)) t d),
     )
@@ -96,9 +96,9 @@ write-slots-spec =
     add-taken
     defaulted-requires
     add-defaulted
-    mul-put
+    mul-put-inside
     pair-requires
-    put-requires
+    put-inside-requires
     add-k
     loop-less
     loop-again
