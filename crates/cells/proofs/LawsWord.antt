@@ -1,15 +1,15 @@
 -- Laws of bytes as one number, in this order: a number by its leading and its last bytes; bytes by their number; the first and the last bytes of
--- eight. Assumes nothing.
+-- eight; a text inside its area, and its last bytes. Assumes nothing.
 use mathlib.Core.Path.{_≡_, refl, sym, ap, ap₂, subst, _∙_}
-use mathlib.Core.Bool.{Bool, true, false}
+use mathlib.Core.Bool.{true}
 use mathlib.Core.List.{List, [], _∷_, _++_}
-use Prim.Native.Nat.{ℕ, zero, suc, _+_, _-_, _*_, _/_, _%_, _^_, _<_, _≤_, min}
+use Prim.Native.Nat.{ℕ, zero, suc, _+_, _-_, _*_, _/_, _%_, _^_, _<_, _≤_}
 use native.Mathlib.Nat.{zero-add, suc-add, add-assoc, add-mul, mul-assoc, pow-succ', one-le-pow}
 use native.Mathlib.Omega.{arith}
 use lib.Arith.{digits-lt, digits-div, digits-mod}
 use lib.Dec.{eqb, leb}
-use lib.ListN.{length, take, drop, getD, length-take, length-drop, length-append, take-append-drop}
-use lib.Seq.{take-nil, take-take, take-all, getD-take, getD-drop, drop-drop, length-take-le}
+use lib.ListN.{length, take, drop, getD, length-take, length-drop, take-append-drop}
+use lib.Seq.{take-nil, take-take, take-all, getD-drop, drop-drop, length-take-le}
 use borrow.Author.Tests.{eqb-true, eq-eqb, leb-true, le-leb}
 use Rattle.rules.specs.Text.{sameBytes, startOf, sizeOf, bytesAt, inside}
 use Rattle.rules.proofs.LawsListing.{and-right, and-both, same-test}

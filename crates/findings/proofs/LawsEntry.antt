@@ -2,14 +2,13 @@
 -- resolved like a written name.
 -- Assumes nothing.
 use mathlib.Core.Path.{_≡_, refl, sym, ap, ap₂, _∙_}
-use mathlib.Core.Bool.{Bool, true, false, cond, _&&_, _||_}
+use mathlib.Core.Bool.{Bool, true, false, cond, _||_}
 use mathlib.Core.List.{List, []}
 use Prim.Native.Nat.{ℕ, min}
 use native.Mathlib.Omega.{arith}
-use borrow.Author.Tests.{eqb-true}
-use lib.Dec.{eqb, ltb, leb}
+use lib.Dec.{eqb, ltb}
 use lib.ListN.{length}
-use Rattle.rules.specs.Text.{sizeOf, bytesAt, inside, isText, textIn, among}
+use Rattle.rules.specs.Text.{bytesAt, inside, textIn, among}
 use Rattle.rules.specs.Value.{Value, callText, wellFormedKey}
 use Rattle.rules.specs.Answer.{fine, refuse, name, callArea, partOf}
 use Rattle.rules.specs.CallRecord.{Named, word, number, keyIn}
@@ -17,7 +16,6 @@ use Rattle.rules.specs.Parameters.{Parameter, positionalCount}
 use Rattle.rules.specs.Lookup.{find}
 use Rattle.rules.specs.Passed.{positionalFirst, namesApart}
 use Rattle.rules.specs.Binding.{textsOf, namesFilled, askEntry}
-use Rattle.rules.proofs.LawsListing.{and-left, and-right}
 use Rattle.rules.proofs.LawsText.{payload-of-halves}
 use Rattle.rules.proofs.LawsFound.{isBelow, names-filled}
 use Rattle.cells.specs.Text.{textOf, partAt}

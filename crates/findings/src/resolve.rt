@@ -9,7 +9,7 @@ use lookup::Finding;
 use lookup::find_from;
 use lookup::find_near;
 ghost use mathlib.Core.Path.{_≡_};
-ghost use Prim.Native.Nat.{_+_, _*_, _<_, _≤_, _^_};
+ghost use Prim.Native.Nat.{_+_, _*_, _<_, _^_};
 ghost use lib.ListN.{length};
 ghost use Rattle.cells.specs.Text.{partAt};
 ghost use Rattle.cells.specs.Record.{pairAt};

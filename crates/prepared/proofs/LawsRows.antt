@@ -3,15 +3,13 @@
 -- Assumes nothing.
 use mathlib.Core.Path.{_≡_, refl, sym, ap, _∙_}
 use mathlib.Core.Bool.{Bool, true, false, not, _&&_}
-use mathlib.Core.Logic.{_⊎_, inl, inr}
 use mathlib.Core.List.{List, _∷_, map}
-use Prim.Native.Nat.{ℕ, zero, suc, _+_, _*_, _^_, _<_, _≤_, min}
+use Prim.Native.Nat.{ℕ, zero, suc, _+_, _*_, _<_, _≤_}
 use native.Mathlib.Nat.{add-zero}
-use native.Mathlib.Numerals.{add-one}
 use native.Mathlib.Omega.{arith}
 use lib.Dec.{ltb, eqb}
-use lib.ListN.{length, drop, take, getD, length-take, drop-of-length-le}
-use lib.Seq.{drop-drop, drop-cons, getD-drop, getD-take}
+use lib.ListN.{drop, getD}
+use lib.Seq.{drop-drop, getD-drop}
 use native.Mathlib.Decide.{decLe}
 use borrow.Author.Tests.{le-ltb, eqb-true, eqb-false, not-true, not-false}
 use Rattle.rules.specs.Cells.{readEach}

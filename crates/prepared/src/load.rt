@@ -18,7 +18,7 @@ ghost use lib.Dec.{eqb};
 ghost use lib.ListN.{length};
 ghost use Rattle.cells.specs.Listed.{listed};
 ghost use Rattle.prepared.specs.Rows.{paramAt, Whole, Narrow};
-ghost use Rattle.prepared.specs.Load.{byPosition, onlyByPosition, restOfNames, orAt, IndicesOf, IsLoaded};
+ghost use Rattle.prepared.specs.Load.{restOfNames, orAt, IndicesOf, IsLoaded};
 
 pub(crate) fn load(cells: &[u64]) -> Parameters
     requires { ⌜ Whole (now cells) × Narrow (now cells) ⌝ }

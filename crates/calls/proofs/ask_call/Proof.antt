@@ -3,7 +3,7 @@
 use mathlib.Core.Path.{_≡_, sym, ap, _∙_}
 use borrow.Author.Tests.{not-true, not-false}
 use borrow.Author.Needs.{needs}
-use Rattle.rules.specs.Answer.{fine, _then_, ask}
+use Rattle.rules.specs.Answer.{fine}
 use Rattle.rules.specs.CallRecord.{readCall}
 use Rattle.rules.specs.CallQuestions.{namesDiffer, askForm}
 use Rattle.cells.specs.Answer.{answerOf}

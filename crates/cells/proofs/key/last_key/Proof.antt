@@ -1,8 +1,7 @@
 -- `cells::key::last_key` meets its contract: the bytes in front of the text are divided out. Assumes nothing.
-use mathlib.Core.Path.{_≡_, ap, _∙_}
-use Prim.Native.Nat.{_+_, _/_, _%_, _<_, _≤_}
+use mathlib.Core.Path.{ap, _∙_}
+use Prim.Native.Nat.{_/_, _%_}
 use native.Mathlib.Omega.{arith}
-use lib.ListN.{length}
 use borrow.Author.Needs.{needs}
 use Rattle.rules.specs.Text.{bytesAt, startOf, sizeOf}
 use Rattle.cells.specs.Text.{keyOf}

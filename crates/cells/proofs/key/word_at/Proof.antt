@@ -2,10 +2,9 @@
 -- read all are known to be bytes.
 -- Assumes nothing.
 use Prim.Native.Nat.{_+_, _-_, _<_, _≤_}
-use mathlib.Core.Path.{_≡_, sym, subst}
 use mathlib.Core.Logic.{inl}
 use native.Mathlib.Omega.{arith}
-use lib.ListN.{length, drop, getD, length-drop}
+use lib.ListN.{drop, getD, length-drop}
 use lib.Seq.{getD-drop}
 use borrow.Author.Needs.{needs}
 use Rattle.cells.proofs.LawsKey.{KeySoFar, key-start, key-room, key-next, key-end}

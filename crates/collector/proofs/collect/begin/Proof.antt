@@ -11,14 +11,12 @@ use Rattle.rules.specs.Parameters.{Parameter}
 use Rattle.rules.specs.Collection.{callOf}
 use Rattle.cells.specs.Answer.{answerOf}
 use Rattle.builder.specs.Params.{parametersIn}
-use Rattle.builder.specs.declared.spec.ParametersSpec.{ParametersSpec}
 use Rattle.calls.specs.Head.{headOf}
 use Rattle.calls.specs.Keys.{askKeys}
 use Rattle.calls.proofs.LawsCall.{keys-form}
 use Rattle.answers.specs.declared.answer.Collected.{Collected}
-use Rattle.findings.specs.Resolve.{Prepared}
 use Rattle.collector.specs.Collect.{Ends, boundTo, isShort, Beginning}
-use Rattle.collector.specs.declared.collect.Begun.the-variants.{Ended, Open}
+use Rattle.collector.specs.declared.collect.Begun.the-variants.{Ended}
 use Rattle.collector.proofs.LawsReady.{call-ready, call-few, values-within, none-written}
 use Rattle.collector.proofs.LawsEnds.{short-call, short-unnamed, bound-keys, call-passed, bound-short-board, bound-binding}
 use borrow.Author.Needs.{needs}

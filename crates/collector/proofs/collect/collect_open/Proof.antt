@@ -1,20 +1,17 @@
 -- `collector::collect::collect_open` meets its contract: 13 by what resolving the written names answers, 14 by the board's length, and then the
 -- general path. Assumes nothing.
-use mathlib.Core.Path.{_≡_, refl, sym, ap, subst, _∙_}
-use mathlib.Core.Bool.{true}
-use mathlib.Core.List.{List, []}
+use mathlib.Core.Path.{_≡_, sym, subst, _∙_}
+use mathlib.Core.List.{[]}
 use Prim.Native.Nat.{ℕ}
 use native.Mathlib.Omega.{arith}
 use lib.ListN.{replicate, length-replicate, getD-replicate}
 use Rattle.rules.specs.Answer.{fine}
-use Rattle.rules.specs.CallRecord.{readCall}
-use Rattle.rules.specs.CallQuestions.{namesDiffer, askForm, askCall}
+use Rattle.rules.specs.CallQuestions.{askForm, askCall}
 use Rattle.rules.specs.Collection.{callOf}
 use Rattle.builder.specs.Params.{parametersIn}
 use Rattle.builder.specs.declared.spec.ParametersSpec.{ParametersSpec}
 use Rattle.calls.specs.Head.{headOf, Few}
 use Rattle.calls.proofs.LawsCall.{keys-form}
-use Rattle.findings.specs.Resolved.{Resolved}
 use Rattle.findings.specs.Resolve.{pairsFrom, Naming, Others, NamesEnd}
 use Rattle.findings.specs.EntriesDone.{writtenNames}
 use Rattle.findings.proofs.LawsNames.{few-list}

@@ -1,6 +1,6 @@
 -- `questions::questions::judge` meets its contract: 15 by the head, 16 by what the written names fill, and the rest by `after_names`.
 -- Assumes nothing.
-use mathlib.Core.Path.{_≡_, refl, sym, ap, subst, _∙_}
+use mathlib.Core.Path.{refl, sym, ap, subst, _∙_}
 use mathlib.Core.List.{List}
 use Prim.Native.Nat.{ℕ, _<_}
 use native.Mathlib.Omega.{arith}
