@@ -110,7 +110,7 @@ uint64_t liuwdom_can_fill(const uint64_t *spec_cells, size_t spec_cells_len, con
 /*
  * Prepares a parameter list, so that many calls can be bound against it. Asks 1 to 8, then LIUWDOM_NO_ROOM below LIUWDOM_PREPARED cells.
  * answer[4]: how many cells were written, from the first. Lend them (cells behind them are not looked at) and the same spec area to
- * liuwdom_bind_prepared.
+ * liuwdom_bind_prepared. They are for the build of the library that wrote them, and no format to keep.
  */
 uint64_t liuwdom_prepare(const uint64_t *spec_cells, size_t spec_cells_len, const uint8_t *spec, size_t spec_len, uint64_t *prepared,
                          size_t prepared_len, uint64_t *answer);
