@@ -186,21 +186,6 @@ module _ (B : ℕ) (cells area : List ℕ) (e : askCall B cells area ≡ fine) w
   call-form =
       then-left (askForm B cells area) (ask 12 (entriesDiffer area (readCall cells)) then ask 13 (namesDiffer area (readCall cells))) e
 
-  after-form : (ask 12 (entriesDiffer area (readCall cells)) then ask 13 (namesDiffer area (readCall cells))) ≡ fine
-  unfolding askCall
-  after-form =
-      then-right (askForm B cells area) (ask 12 (entriesDiffer area (readCall cells)) then ask 13 (namesDiffer area (readCall cells))) e
-
-  pub call-keys : entriesDiffer area (readCall cells) ≡ true
-  call-keys =
-      ask-true 12 (entriesDiffer area (readCall cells))
-      (then-left (ask 12 (entriesDiffer area (readCall cells))) (ask 13 (namesDiffer area (readCall cells))) after-form)
-
-  pub call-names : namesDiffer area (readCall cells) ≡ true
-  call-names =
-      ask-true 13 (namesDiffer area (readCall cells))
-      (then-right (ask 12 (entriesDiffer area (readCall cells))) (ask 13 (namesDiffer area (readCall cells))) after-form)
-
 -- ---- 13 after 9 to 12
 
 in-turn : (a b d : Answer) → ((a then b) then d) ≡ (a then b then d)

@@ -47,7 +47,7 @@ kind-test test p q r (suc (suc zero)) count e = r
 kind-test test p q r (suc (suc (suc kind))) count e = absurd (false≢true e)
 
 -- entries whose keys are texts are named values, as written pairs are
-words-named : (area : List ℕ) (ps : List Pair) → all (λ p. eqb (p .key .kind) callText) ps ≡ true → words (map (entryIn area) ps) ≡ map (namedIn area) ps
+pub words-named : (area : List ℕ) (ps : List Pair) → all (λ p. eqb (p .key .kind) callText) ps ≡ true → words (map (entryIn area) ps) ≡ map (namedIn area) ps
 unfolding entryIn namedIn keyIn
 words-named area [] e = refl
 words-named area (p ∷ ps) e =

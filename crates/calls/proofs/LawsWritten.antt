@@ -24,7 +24,7 @@ use Rattle.calls.specs.Values.{positionalAt, valuesIn}
 use Rattle.calls.proofs.LawsEach.{each-length, runs-first}
 
 -- values that were read, written again
-value-cells : (count : ℕ) (cells : List ℕ) → 2 * count ≤ length cells → writeEach valueCells (readEach valueWidth readValue count cells) ≡ take (2 * count) cells
+pub value-cells : (count : ℕ) (cells : List ℕ) → 2 * count ≤ length cells → writeEach valueCells (readEach valueWidth readValue count cells) ≡ take (2 * count) cells
 unfolding valueCells valueWidth readValue
 value-cells zero cells h = refl
 value-cells (suc count) [] h = absurd (omega arith)
@@ -61,14 +61,13 @@ module _ (cells : List ℕ) (h : Head) (few : Few 64 h) where
       ap (writeEach valueCells) (sym written-run)
       ∙ value-cells (h .p) (drop 6 cells) (rw (length-drop 6 cells) (omega arith))
 
--- one cell more of `n` cells from `from` on
-pub copied-next : (cells before board : List ℕ) (from n k : ℕ) → from + n ≤ length cells → n ≤ length before → length board ≡ length before
-    → board ≡ stored before 0 (take k (take n (drop from cells))) → k < n
-    → set board k (getD cells (from + k) 0) ≡ stored before 0 (take (k + 1) (take n (drop from cells)))
-copied-next cells before board from n k inside room same held h =
-    ap (set board k) (sym (getD-take n (drop from cells) k 0 h ∙ getD-drop from cells k 0))
-    ∙ ap (λ j. set board j (getD run k 0)) (sym (zero-add k))
-    ∙ stored-more before run board 0 k held same (omega (arith, wide)) (omega (arith, wide))
+-- one cell more of `n` cells from `from` on, stored from `at` on
+pub copied-next : (cells before board : List ℕ) (from n at k : ℕ) → from + n ≤ length cells → at + n ≤ length before → length board ≡ length before
+    → board ≡ stored before at (take k (take n (drop from cells))) → k < n
+    → set board (at + k) (getD cells (from + k) 0) ≡ stored before at (take (k + 1) (take n (drop from cells)))
+copied-next cells before board from n at k inside room same held h =
+    ap (set board (at + k)) (sym (getD-take n (drop from cells) k 0 h ∙ getD-drop from cells k 0))
+    ∙ stored-more before run board at k held same (omega (arith, wide)) (omega (arith, wide))
   where
     run : List ℕ
     run = take n (drop from cells)

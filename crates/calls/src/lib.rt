@@ -10,6 +10,7 @@ use crate::head::named_from;
 use crate::head::read_head;
 use cells::answer::Answer;
 ghost use mathlib.Core.Path.{_≡_};
+ghost use Rattle.rules.specs.Answer.{fine};
 ghost use Rattle.rules.specs.CallQuestions.{askForm, askCall};
 ghost use Rattle.cells.specs.Answer.{answerOf};
 ghost use Rattle.calls.specs.Keys.{askKeys};
@@ -45,6 +46,14 @@ pub fn ask_keys(cells: &[u64], area: &[u8]) -> Answer
     if let Answer::Refused(_) = form {
         return form;
     }
+    ask_entries(cells, area)
+}
+
+// The same of a record that has passed 9 to 11: 12 is left.
+pub fn ask_entries(cells: &[u64], area: &[u8]) -> Answer
+    requires { ⌜ askForm 64 (now cells) (now area) ≡ fine ⌝ }
+    ensures { λ r. ⌜ answerOf r ≡ askKeys 64 (now (cells .entry)) (now (area .entry)) ⌝ }
+{
     let h = read_head(cells);
     if !keys_differ(cells, area, entries_from(h), h.d) {
         return Answer::Refused(12);

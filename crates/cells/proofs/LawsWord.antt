@@ -21,7 +21,7 @@ use Rattle.cells.specs.Text.{partAt, keyFrom, keyOf, lastKey, IsWord, Ha
 abbrev pub Bytes : List ℕ → Type 0
 Bytes xs = (j : ℕ) → getD xs j 0 < 256
 
-bytes-take : (n : ℕ) (xs : List ℕ) → Bytes xs → Bytes (take n xs)
+pub bytes-take : (n : ℕ) (xs : List ℕ) → Bytes xs → Bytes (take n xs)
 bytes-take zero xs bytes j = omega arith
 bytes-take (suc n) [] bytes j = bytes j
 bytes-take (suc n) (x ∷ xs) bytes zero = bytes zero
@@ -52,7 +52,7 @@ keyFrom-below (b ∷ bs) bytes =
 
 -- ---- bytes by their number
 
-keyFrom-same : (xs ys : List ℕ) → length xs ≡ length ys → Bytes xs → Bytes ys → keyFrom 0 xs ≡ keyFrom 0 ys → xs ≡ ys
+pub keyFrom-same : (xs ys : List ℕ) → length xs ≡ length ys → Bytes xs → Bytes ys → keyFrom 0 xs ≡ keyFrom 0 ys → xs ≡ ys
 keyFrom-same [] [] l p q e = refl
 keyFrom-same [] (y ∷ ys) l p q e = absurd (omega arith)
 keyFrom-same (x ∷ xs) [] l p q e = absurd (omega arith)
@@ -118,7 +118,7 @@ unfolding keyOf
 key-none ws n e = rw e
 
 -- two texts of n bytes by what is left of their words
-key-all : (zs : List ℕ) → length zs ≤ 8 → keyOf zs ≡ keyFrom 0 zs
+pub key-all : (zs : List ℕ) → length zs ≤ 8 → keyOf zs ≡ keyFrom 0 zs
 unfolding keyOf
 key-all zs few = ap (keyFrom 0) (take-all 8 zs few)
 

@@ -37,7 +37,7 @@ use Rattle.collector.proofs.LawsFillable.{pairs-listed, name-formed}
 
 -- ---- runs of pairs, by index
 
-run-listed : {X : Type 0} (f : Pair → X) (cells : List ℕ) (from n : ℕ) → map f (pairsAt cells from n) ≡ listed (λ k. f (readPair (drop (from + 4 * k) cells))) 0 n
+pub run-listed : {X : Type 0} (f : Pair → X) (cells : List ℕ) (from n : ℕ) → map f (pairsAt cells from n) ≡ listed (λ k. f (readPair (drop (from + 4 * k) cells))) 0 n
 unfolding pairWidth
 run-listed f cells from n =
     each-map pairWidth readPair f n (drop from cells) ∙ ap (λ m. readEach 4 (λ l. f (readPair l)) n (drop m cells)) from-first ∙ pairs-listed (λ l. f (readPair l)) cells from 0 n
@@ -51,7 +51,7 @@ name-text : (area : List ℕ) (v : Value) → wellFormedName area v ≡ true →
 unfolding wellFormedName isText
 name-text area v e = and-left (eqb (v .kind) callText) (inside area (v .payload) && leb 1 (sizeOf (v .payload)) && leb (sizeOf (v .payload)) 64) e
 
-named-near : (h : Head) → Few 64 h → namedFrom h ≤ 1024
+pub named-near : (h : Head) → Few 64 h → namedFrom h ≤ 1024
 unfolding namedFrom headWidth valueWidth
 named-near h few = omega (arith, few .few-p)
 
@@ -75,7 +75,7 @@ module _ (cells area : List ℕ) (h : Head) (read : h ≡ readHead cells) (form 
   written = named-run area cells h read ten ∙ run-listed (namedIn area) cells (namedFrom h) (h .n)
 
   -- its written names are all there
-  named-there : namedFrom h + 4 * h .n ≤ length cells
+  pub named-there : namedFrom h + 4 * h .n ≤ length cells
   unfolding pairWidth
   named-there = named-within cells h read 64 nine
 
@@ -109,7 +109,7 @@ module _ (cells area : List ℕ) (h : Head) (read : h ≡ readHead cells) (form 
   unfolding entryAt
   entries = entries-run area cells h read ten ∙ run-listed (entryIn area) cells (entriesFrom h) (h .d)
 
-  keys-formed : (k : ℕ) → k < h .d → wellFormedKey area (pairAt cells (entriesFrom h + 4 * k)) ≡ true
+  pub keys-formed : (k : ℕ) → k < h .d → wellFormedKey area (pairAt cells (entriesFrom h + 4 * k)) ≡ true
   unfolding pairWidth
   keys-formed k below =
       entry-key area cells (entriesFrom h + 4 * k)

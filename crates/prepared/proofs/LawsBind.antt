@@ -27,12 +27,12 @@ use Rattle.findings.specs.Resolve.{Prepared}
 use Rattle.answers.specs.declared.answer.Collected.{Collected}
 use Rattle.collector.specs.Collect.{Ends, boundTo}
 use Rattle.prepared.specs.Prepared.{Row, rowsIn, listIn, parameterOfRow, rowRight, rowsRight, isPrepared, preparedLength, frontWidth, rowWidth, boundPrepared}
-use Rattle.prepared.specs.Rows.{rowAt, stands, Whole, Narrow}
+use Rattle.prepared.specs.Rows.{rowAt, stands, Whole, Narrow, Keyed}
 use Rattle.prepared.specs.Load.{byPosition}
 use Rattle.prepared.specs.Bind.{EndsBound}
 use Rattle.prepared.specs.declared.PreparedBound.the-variants.{NotPrepared, Bound}
 use Rattle.prepared.proofs.LawsRows.{never, stands-0, stands-4, cellsAt, rowAt-cells, rows-listed}
-use Rattle.prepared.proofs.LawsCheck.{right-name, right-stands, right-style}
+use Rattle.prepared.proofs.LawsCheck.{right-name, right-stands, right-style, rows-keyed}
 use Rattle.prepared.proofs.LawsLoad.{by-0, by-3, by-4, row-position}
 
 -- ---- the positional rows come first
@@ -206,23 +206,32 @@ module _ (area cells : List ℕ) (t : isPrepared area cells ≡ true) where
         style = λ j h. omega (arith, right-style area (cellsAt cells j) (row-right j h));
       }
 
+  -- the positional parameters come first, no nameable name comes twice, and each row's key is its name's
+  pub prepared-first : positionalFirst (listIn area cells) ≡ true
+  unfolding listIn
+  prepared-first = rows-first area 0 (rowsIn cells) rows-hold
+
+  pub prepared-apart : namesApart [] (listIn area cells) ≡ true
+  prepared-apart = and-right (few && long && named && rows) apart all-of
+
+  pub prepared-keyed : Keyed area cells (getD cells 0 0)
+  prepared-keyed = rows-keyed area cells (getD cells 0 0) (prepared-whole .long) (ap (rowsRight area 0) (sym (rows-listed cells)) ∙ rows-hold)
+
   module _ (l : ParametersSpec) (is : IsList area l (listIn area cells)) where
     pub prepared-ready : Prepared area l
     unfolding listIn
     prepared-ready =
         record {
           is-list = rw (is .parameters) is;
-          first = rw (is .parameters) (rows-first area 0 (rowsIn cells) rows-hold);
-          apart = rw (is .parameters) (and-right (few && long && named && rows) apart all-of);
+          first = rw (is .parameters) prepared-first;
+          apart = rw (is .parameters) prepared-apart;
           inside = rw (is .parameters) (rows-inside area 0 (rowsIn cells) rows-hold);
         }
 
-    pub prepared-ends
-        : (callCells callBytes before after : List ℕ) (r : Collected) → Ends (boundTo (parametersIn area (l .params)) callCells callBytes before) before after r
-        → EndsBound (boundPrepared area cells callCells callBytes before) before after (Bound r)
-    unfolding boundPrepared
-    prepared-ends callCells callBytes before after r e =
-        rw t (rw (is .parameters) at (bound-ends (boundTo (parametersIn area (l .params)) callCells callBytes before) before after r e))
+  pub prepared-ends : (callCells callBytes before after : List ℕ) (r : Collected) → Ends (boundTo (listIn area cells) callCells callBytes before) before after r
+      → EndsBound (boundPrepared area cells callCells callBytes before) before after (Bound r)
+  unfolding boundPrepared
+  prepared-ends callCells callBytes before after r e = rw t (bound-ends (boundTo (listIn area cells) callCells callBytes before) before after r e)
 
 pub unprepared-ends : (area cells callCells callBytes before : List ℕ) → isPrepared area cells ≡ false → EndsBound (boundPrepared area cells callCells callBytes before) before before NotPrepared
 unfolding boundPrepared

@@ -6,5 +6,10 @@ pub mod LawsRows
 pub mod LawsCheck
 pub mod LawsSlots
 pub mod LawsLoad
+pub mod LawsNamedAfter
 pub mod LawsBind
+pub mod LawsInOrder
+pub mod LawsSeenInOrder
+pub mod LawsWrittenInOrder
+pub mod LawsOrderEnds
 pub mod LawsWritten

@@ -5,3 +5,4 @@ pub mod Rows
 pub mod Load
 pub mod Written
 pub mod Bind
+pub mod InOrder

@@ -58,7 +58,7 @@ name-kind : (area : List ℕ) (v : Value) → wellFormedName area v ≡ true →
 unfolding wellFormedName
 name-kind area v e = and-left (eqb (v .kind) callText) (isText 1 area (v .payload)) e
 
-name-key : (area : List ℕ) (v : Value) → wellFormedName area v ≡ true → wellFormedKey area v ≡ true
+pub name-key : (area : List ℕ) (v : Value) → wellFormedName area v ≡ true → wellFormedKey area v ≡ true
 unfolding wellFormedName wellFormedKey
 name-key area v e = go (eqb (v .kind) 3)
   where
@@ -85,7 +85,7 @@ pair-word area p e = ap (λ k. record { key = k; value = p .value }) (pair-key a
 
 -- ---- keys that are texts
 
-keys-words : (ts : List Text) → keysDiffer (map word ts) ≡ differ ts
+pub keys-words : (ts : List Text) → keysDiffer (map word ts) ≡ differ ts
 keys-words [] = refl
 keys-words (t ∷ ts) = ap₂ (λ a b. a && b) (apart ts) (keys-words ts)
   where

@@ -45,7 +45,7 @@ known-found (q ∷ qs) b i = go (names b q) (known-found qs b (suc i))
     go false e = e
 
 -- a name that is known before the parameters is that of none of them
-none-after : (before qs : List Parameter) (b : List ℕ) → namesApart before qs ≡ true → known before b ≡ true → known qs b ≡ false
+pub none-after : (before qs : List Parameter) (b : List ℕ) → namesApart before qs ≡ true → known before b ≡ true → known qs b ≡ false
 unfolding known
 none-after before [] b a k = refl
 none-after before (q ∷ qs) b a k =

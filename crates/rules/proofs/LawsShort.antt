@@ -42,11 +42,11 @@ all-positional (q ∷ qs) e = go (positional q) e (all-positional qs)
 
 -- ---- the slots are the values
 
-slots-short : (P : List Value) (a b i : ℕ) (qs : List Parameter) → all positional qs ≡ true → length qs + i ≡ length P → mapFrom (slotOf P [] a b) i qs ≡ map taken (drop i P)
+pub slots-short : (P : List Value) (N : List Named) (a b i : ℕ) (qs : List Parameter) → all positional qs ≡ true → length qs + i ≡ length P → mapFrom (slotOf P N a b) i qs ≡ map taken (drop i P)
 unfolding slotOf fromP
-slots-short P a b i [] e l = sym (ap (map taken) (drop-of-length-le P {i = i} (omega arith)))
-slots-short P a b i (q ∷ qs) e l =
-    ap₂ {C = List Slot} (λ s ss. s ∷ ss) here (slots-short P a b (suc i) qs (rest (positional q) e) (omega arith))
+slots-short P N a b i [] e l = sym (ap (map taken) (drop-of-length-le P {i = i} (omega arith)))
+slots-short P N a b i (q ∷ qs) e l =
+    ap₂ {C = List Slot} (λ s ss. s ∷ ss) here (slots-short P N a b (suc i) qs (rest (positional q) e) (omega arith))
     ∙ sym (ap (map taken) (drop-cons P i noValue (omega arith)))
   where
     rest : (x : Bool) → (x && all positional qs) ≡ true → all positional qs ≡ true
@@ -57,13 +57,21 @@ slots-short P a b i (q ∷ qs) e l =
     first true f = refl
     first false f = f
 
-    here : slotOf P [] a b i q ≡ taken (getD P i noValue)
+    here : slotOf P N a b i q ≡ taken (getD P i noValue)
     here = rw (first (positional q) e, lt-ltb i (length P) (omega arith))
 
-taken-cells : (vs : List Value) → writeEach slotCells (map taken vs) ≡ writeEach valueCells vs
+pub taken-cells : (vs : List Value) → writeEach slotCells (map taken vs) ≡ writeEach valueCells vs
 unfolding slotCells
 taken-cells [] = refl
 taken-cells (v ∷ vs) = ap (λ r. valueCells v ++ r) (taken-cells vs)
+
+pub all-taken : (vs : List Value) → tally isTaken (map taken vs) ≡ length vs
+all-taken [] = refl
+all-taken (v ∷ vs) = ap suc (all-taken vs)
+
+pub none-defaulted : (vs : List Value) → tally isDefaulted (map taken vs) ≡ 0
+none-defaulted [] = refl
+none-defaulted (v ∷ vs) = none-defaulted vs
 
 -- no name is written, so none repeats
 repeats-none : (P : List Value) (i : ℕ) (qs : List Parameter) → askRepeats P [] i qs ≡ fine
@@ -76,7 +84,7 @@ repeats-none P i (q ∷ qs) = go (fromP P i q) (repeats-none P (suc i) qs)
     go false e = e
 
 -- a slot that is taken is not empty
-required-taken : (qs : List Parameter) (vs : List Value) → askRequired qs (map taken vs) ≡ fine
+pub required-taken : (qs : List Parameter) (vs : List Value) → askRequired qs (map taken vs) ≡ fine
 required-taken [] vs = refl
 required-taken (q ∷ qs) [] = refl
 required-taken (q ∷ qs) (v ∷ vs) = go (isRequired (q .kind)) (required-taken qs vs)
@@ -88,7 +96,7 @@ required-taken (q ∷ qs) (v ∷ vs) = go (isRequired (q .kind)) (required-taken
 module _ (qs : List Parameter) (P : List Value) (all-of : positionalCount qs ≡ length qs) (just : length P ≡ length qs) where
   pub place-short : place qs P [] ≡ map taken P
   unfolding place positionalCount
-  place-short = slots-short P (length (starRemainder qs P)) (length (namedRemainder qs [])) 0 qs (all-positional qs all-of) (omega arith)
+  place-short = slots-short P [] (length (starRemainder qs P)) (length (namedRemainder qs [])) 0 qs (all-positional qs all-of) (omega arith)
 
   star-short : starRemainder qs P ≡ []
   unfolding starRemainder
@@ -99,14 +107,6 @@ module _ (qs : List Parameter) (P : List Value) (all-of : positionalCount qs ≡
   pub counts-short : countsOf qs P [] ≡ record { taken = length P; defaulted = 0; star = 0; named = 0 }
   unfolding countsOf namedRemainder
   counts-short = rw (place-short, star-short, all-taken P, none-defaulted P)
-    where
-      all-taken : (vs : List Value) → tally isTaken (map taken vs) ≡ length vs
-      all-taken [] = refl
-      all-taken (v ∷ vs) = ap suc (all-taken vs)
-
-      none-defaulted : (vs : List Value) → tally isDefaulted (map taken vs) ≡ 0
-      none-defaulted [] = refl
-      none-defaulted (v ∷ vs) = none-defaulted vs
 
   pub written-short : written qs P [] ≡ writeEach valueCells P
   unfolding written namedRemainder

@@ -1,23 +1,19 @@
--- `prepared::bind_prepared` meets its contract: cells that are no prepared list are refused; otherwise a call has ended after 9 to 12 and the
--- short path, or the rows are loaded and what is left open is ended. Assumes nothing.
-use mathlib.Core.Path.{_≡_, refl, sym, subst, _∙_}
+-- `prepared::bind_prepared` meets its contract: cells that are no prepared list are refused, and so is what 9 to 11 refuse; a call in the list's
+-- order ends as it says, and any other one against the rows when they are loaded. Assumes nothing.
+use mathlib.Core.Path.{_≡_, sym, ap, _∙_}
 use mathlib.Core.Bool.{true}
-use mathlib.Core.List.{List}
-use Prim.Native.Nat.{ℕ}
 use borrow.Author.Tests.{not-true, not-false}
-use lib.ListN.{getD}
-use Rattle.cells.specs.Listed.{listed}
-use Rattle.builder.specs.Params.{parametersIn}
-use Rattle.builder.specs.Build.{IsList}
-use Rattle.builder.specs.declared.params.Parameters.{Parameters}
-use Rattle.builder.specs.declared.spec.ParametersSpec.{ParametersSpec}
-use Rattle.collector.specs.Collect.{Ends, boundTo, Beginning}
+use Rattle.rules.specs.Answer.{fine}
+use Rattle.rules.specs.CallQuestions.{askForm}
+use Rattle.rules.specs.Collection.{callOf}
+use Rattle.cells.specs.Answer.{answerOf}
+use Rattle.calls.specs.Head.{headOf}
+use Rattle.calls.proofs.LawsCall.{form-lengths, lengths-few, lengths-length}
 use borrow.Author.Needs.{needs}
 use Rattle.prepared.specs.Prepared.{listIn, isPrepared}
-use Rattle.prepared.specs.Rows.{paramAt, Whole}
-use Rattle.prepared.specs.Load.{IndicesOf, IsLoaded}
-use Rattle.prepared.proofs.LawsLoad.{columnsOf, columns-loaded}
-use Rattle.prepared.proofs.LawsBind.{prepared-whole, prepared-narrow, prepared-ready, prepared-ends, unprepared-ends}
+use Rattle.prepared.specs.InOrder.{OrderReady, InOrder}
+use Rattle.prepared.proofs.LawsBind.{prepared-ends, unprepared-ends}
+use Rattle.prepared.proofs.LawsOrderEnds.{form-ends, in-order-few, in-order-ends}
 use Rattle.prepared.proofs.bind_prepared.Statement.{statement}
 use Rattle.prepared.proofs.bind_prepared.Tie as tie
 
@@ -30,107 +26,92 @@ is-prepared-requires c κs = search needs
 returns : tie.Need-returns
 returns c = unprepared-ends _ _ _ _ _ (sym (c .before .is-prepared .ensures) ∙ not-true (c .before .is-prepared .result) (c .if1 .taken))
 
-cell-requires : tie.Need-cell-requires
-cell-requires c κs = search needs
-
--- the cells are a prepared list, and all of it is there
+-- the cells are a prepared list
 is-one : (c : tie.Else1) → let a = startOf (c .before) .args in isPrepared (a .spec .now) (a .prepared .now) ≡ true
 is-one c = sym (c .before .is-prepared .ensures) ∙ not-false (c .before .is-prepared .result) (c .if1 .left)
 
-whole : (c : tie.Else1) → Whole (startOf (c .before) .args .prepared .now)
-whole c = let a = startOf (c .before) .args in prepared-whole (a .spec .now) (a .prepared .now) (is-one c)
+ask-form-requires : tie.Need-ask-form-requires
+ask-form-requires c κs = search needs
 
-indices-in-requires : tie.Need-indices-in-requires
-indices-in-requires c κs = rw (c .cell .ensures) (whole (c .before) .few, whole (c .before) .long)
-
--- counts and indices are those of the rows
-indexed : (c : tie.After-indices-in) → let a = startOf (c .before .before .before) .args in (area : List ℕ)
-    → IndicesOf (listed (paramAt area (a .prepared .now)) 0 (getD (a .prepared .now) 0 0)) (c .indices-in .result)
-indexed c area = rw (c .before .cell .ensures) at (c .indices-in .ensures area)
-
--- columns that hold the rows are the list that the cells spell
-abbrev listWith : tie.After-indices-in → Parameters → ParametersSpec
-listWith c p = record { params = p; indices = c .indices-in .result }
-
-is-list : (c : tie.After-indices-in) (p : Parameters) → let a = startOf (c .before .before .before) .args in IsLoaded (a .prepared .now) p
-    → IsList (a .spec .now) (listWith c p) (listIn (a .spec .now) (a .prepared .now))
-is-list c p loaded =
-    let a = startOf (c .before .before .before) .args in
-    loaded .list (a .spec .now) (c .indices-in .result) (indexed c (a .spec .now))
-
-abbrev columns : tie.After-indices-in → Parameters
-columns c = columnsOf (startOf (c .before .before .before) .args .prepared .now)
-
-columns-hold : (c : tie.After-indices-in) → IsLoaded (startOf (c .before .before .before) .args .prepared .now) (columns c)
-columns-hold c = columns-loaded (startOf (c .before .before .before) .args .prepared .now) (whole (c .before .before) .few)
-
-begin-requires : tie.Need-begin-requires
-begin-requires c κs = search needs
-
--- how far the call is
-beginning : (begun : tie.After-begin) → let c = begun .before .before in let a = startOf (c .before .before .before) .args in
-    Beginning (parametersIn (a .spec .now) (columns c)) (a .cells .now) (a .area .now) (a .board .now) (begun .begin .last .1 .1 .1 .1 .0) (begun .begin .result)
-beginning begun =
-    let c = begun .before .before in
-    let a = startOf (c .before .before .before) .args in
-    begun .begin .ensures (a .spec .now) (listWith c (columns c)) (prepared-ready (a .spec .now) (a .prepared .now) (is-one (c .before .before)) (listWith c (columns c)) (is-list c (columns c) (columns-hold c))) refl (sym (c .before .cell .ensures))
-
-enum-known-begun : tie.Need-enum-known-begun
-enum-known-begun c = search needs
-
-enum-known-begun-2 : tie.Need-enum-known-begun-2
-enum-known-begun-2 c = search needs
-
-load-requires : tie.Need-load-requires
-load-requires c κs =
-    let told = c .before .before .before .before .before .before .before .before .before in
-    let a = startOf (told .before) .args in
-    (whole told, prepared-narrow (a .spec .now) (a .prepared .now) (is-one told))
-
-collect-open-requires : tie.Need-collect-open-requires
-collect-open-requires c κs =
-    let loaded = c .before .before .before .before .before .before .before in
-    let opened = loaded .before .before in
-    let begun = opened .before .before .before .before in
-    let i = begun .before .before in
-    let a = startOf (i .before .before .before) .args in
-    let passed = beginning begun .left-open (opened .begun2 .given .0 .0) (opened .begun2 .given .1) in
-    let l = listWith i (loaded .load .result) in
-    record {
-      list = prepared-ready (a .spec .now) (a .prepared .now) (is-one (i .before .before)) l (is-list i (loaded .load .result) (loaded .load .ensures));
-      read = passed .0;
-      passed = passed .1;
-    }
-
-same-length : tie.Need-same-length
-same-length c = search needs
+enum-known-asked : tie.Need-enum-known-asked
+enum-known-asked c = search needs
 
 returns-2 : tie.Need-returns-2
 returns-2 c =
     let told = c .before in
-    let begun = told .before .before .before .before in
-    let i = begun .before .before in
-    let a = startOf (i .before .before .before) .args in
-    prepared-ends (a .spec .now) (a .prepared .now) (is-one (i .before .before)) (listWith i (columns i)) (is-list i (columns i) (columns-hold i)) (a .cells .now) (a .area .now) (a .board .now) _ _
-    (beginning begun .ended (told .begun .given .0 .0) (told .begun .given .1))
+    let asked = told .before .before in
+    let a = startOf (asked .before .before) .args in
+    prepared-ends (a .spec .now) (a .prepared .now) (is-one (asked .before)) (a .cells .now) (a .area .now) (a .board .now) (a .board .now) _
+    (form-ends (listIn (a .spec .now) (a .prepared .now)) (a .cells .now) (a .area .now) (a .board .now) (told .asked .given .0 .0) (sym (asked .ask-form .ensures) ∙ ap answerOf (told .asked .given .1)))
 
-same-length-2 : tie.Need-same-length-2
-same-length-2 c = search needs
+enum-told : tie.Need-enum-told
+enum-told c = search needs
+
+cell-requires : tie.Need-cell-requires
+cell-requires c κs = search needs
+
+read-head-requires : tie.Need-read-head-requires
+read-head-requires c κs = search needs
+
+-- and the call has passed 9 to 11
+abbrev beginOf : tie.After-read-head → tie.Else1
+beginOf c = c .before .before .before .before .before
+
+ready : (c : tie.After-read-head) → let a = startOf (beginOf c .before) .args in
+    OrderReady (a .spec .now) (a .prepared .now) (a .cells .now) (a .area .now) (headOf (c .read-head .result)) (c .before .cell .result)
+ready c =
+    let told = c .before .before in
+    record {
+      prepared = is-one (beginOf c);
+      count = c .before .cell .ensures;
+      read = c .read-head .ensures;
+      formed = sym (told .before .before .ask-form .ensures) ∙ ap answerOf (told .enum-told .given .1);
+    }
+
+in-order-requires : tie.Need-in-order-requires
+in-order-requires c κs = ready c
+
+-- its arguments stand in the list's order
+ordered : (c : tie.Then2) → let a = startOf (beginOf (c .before .before) .before) .args in InOrder (listIn (a .spec .now) (a .prepared .now)) (callOf (a .cells .now) (a .area .now))
+ordered c = c .before .in-order .ensures (c .if2 .taken)
+
+collect-in-order-requires : tie.Need-collect-in-order-requires
+collect-in-order-requires c κs =
+    let taken = c .before in
+    let read = taken .before .before in
+    let a = startOf (beginOf read .before) .args in
+    let h = headOf (read .read-head .result) in
+    let nine = form-lengths 64 (a .cells .now) (a .area .now) (ready read .formed) in (
+      lengths-few (a .cells .now) h (read .read-head .ensures) 64 nine,
+      lengths-length (a .cells .now) h (read .read-head .ensures) 64 nine,
+      in-order-few (a .spec .now) (a .prepared .now) (a .cells .now) (a .area .now) h (read .before .cell .result) (ready read) (ordered taken),
+    )
+
+same-length : tie.Need-same-length
+same-length c = search needs
 
 returns-3 : tie.Need-returns-3
 returns-3 c =
     let ended = c .before .before in
-    let loaded = ended .before .before .before .before .before .before .before .before in
-    let opened = loaded .before .before in
-    let begun = opened .before .before .before .before in
-    let i = begun .before .before in
-    let a = startOf (i .before .before .before) .args in
-    let passed = beginning begun .left-open (opened .begun2 .given .0 .0) (opened .begun2 .given .1) in
-    let l = listWith i (loaded .load .result) in
-    let qs = parametersIn (a .spec .now) (l .params) in
-    let after = ended .collect-open .last .1 .1 .1 .1 .1 .1 .1 .1 .1 .1 .1 .0 in
-    prepared-ends (a .spec .now) (a .prepared .now) (is-one (i .before .before)) l (is-list i (loaded .load .result) (loaded .load .ensures)) (a .cells .now) (a .area .now) (a .board .now) after (ended .collect-open .result)
-    (subst (λ b. Ends (boundTo qs (a .cells .now) (a .area .now) b) b after (ended .collect-open .result)) (passed .2) (ended .collect-open .ensures))
+    let taken = ended .before .before in
+    let read = taken .before .before in
+    let a = startOf (beginOf read .before) .args in
+    let h = headOf (read .read-head .result) in
+    prepared-ends (a .spec .now) (a .prepared .now) (is-one (beginOf read)) (a .cells .now) (a .area .now) (a .board .now) _ (ended .collect-in-order .result)
+    (in-order-ends (a .spec .now) (a .prepared .now) (a .cells .now) (a .area .now) h (read .before .cell .result) (ready read) (ordered taken) (a .board .now) _ (ended .collect-in-order .result) (ended .collect-in-order .ensures))
+
+collect-loaded-requires : tie.Need-collect-loaded-requires
+collect-loaded-requires c κs = ready (c .before .before .before)
+
+same-length-2 : tie.Need-same-length-2
+same-length-2 c = search needs
+
+returns-4 : tie.Need-returns-4
+returns-4 c =
+    let ended = c .before .before in
+    let read = ended .before .before .before .before in
+    let a = startOf (beginOf read .before) .args in
+    prepared-ends (a .spec .now) (a .prepared .now) (is-one (beginOf read)) (a .cells .now) (a .area .now) (a .board .now) _ (ended .collect-loaded .result) (ended .collect-loaded .ensures)
 
 pub bind-prepared-spec : {M : Type 1} → statement M
 bind-prepared-spec =
@@ -138,14 +119,16 @@ bind-prepared-spec =
     (tie.spec
     is-prepared-requires
     returns
-    cell-requires
-    indices-in-requires
-    begin-requires
-    enum-known-begun
-    enum-known-begun-2
-    load-requires
-    collect-open-requires
-    same-length
+    ask-form-requires
+    enum-known-asked
     returns-2
+    enum-told
+    cell-requires
+    read-head-requires
+    in-order-requires
+    collect-in-order-requires
+    same-length
+    returns-3
+    collect-loaded-requires
     same-length-2
-    returns-3)
+    returns-4)

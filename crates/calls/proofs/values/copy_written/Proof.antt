@@ -1,87 +1,26 @@
--- `calls::values::copy_written` meets its contract. The loop's invariant: the first k of the written values' cells are stored. The measure is
--- how many are left. Assumes nothing.
-use mathlib.Core.Path.{_≡_, refl, sym, ap, _∙_}
-use Prim.Native.Nat.{_-_, _*_, _≤_}
+-- `calls::values::copy_written` meets its contract: the written values' cells are those behind the head. Assumes nothing.
+use mathlib.Core.Path.{sym, ap, _∙_}
 use native.Mathlib.Omega.{arith}
-use lib.ListN.{length, take, drop, length-take, length-set}
-use lib.Seq.{take-all}
 use borrow.Author.Needs.{needs}
 use Rattle.cells.specs.Out.{stored}
-use Rattle.cells.proofs.LawsOut.{stored-none}
 use Rattle.calls.specs.Head.{headOf}
-use Rattle.calls.proofs.LawsWritten.{written-cells, copied-next}
+use Rattle.calls.proofs.LawsWritten.{written-cells}
 use Rattle.calls.proofs.values.copy_written.Statement.{statement}
 use Rattle.calls.proofs.values.copy_written.Tie as tie
 
-abbrev Inv-loop : tie.InvT-loop
-Inv-loop cells board₀ end k₀ board k = (k ≤ end) × (length board ≡ length board₀) × (board ≡ stored board₀ 0 (take k (take end (drop 6 cells))))
-
-abbrev μ-loop : tie.MeasureT-loop
-μ-loop cells board₀ end k₀ board k = end - k
-
-mul-end : tie.Need-mul-end Inv-loop μ-loop
-mul-end c = search needs
-
-loop-holds : tie.Need-loop-holds Inv-loop μ-loop
-loop-holds c = (search needs, refl, sym (stored-none (c .before .args .board .now) 0 (omega arith)))
-
-add-board : tie.Need-add-board Inv-loop μ-loop
-add-board c = search needs
-
-mul-board : tie.Need-mul-board Inv-loop μ-loop
-mul-board c = search needs
-
-shared-slice-read-board : tie.Need-shared-slice-read-board Inv-loop μ-loop
-shared-slice-read-board c = search needs
-
-mul-board-2 : tie.Need-mul-board-2 Inv-loop μ-loop
-mul-board-2 c = search needs
-
-slice-write-board : tie.Need-slice-write-board Inv-loop μ-loop
-slice-write-board c = search needs
-
-add-k : tie.Need-add-k Inv-loop μ-loop
-add-k c = search needs
-
-loop-less : tie.Need-loop-less Inv-loop μ-loop
-loop-less c = search needs
-
-loop-again : tie.Need-loop-again Inv-loop μ-loop
-loop-again c =
-    let start = c .before .before .before .before in
-    let a = start .args in
-    let at = c .before .before .loop in (
-      search needs,
-      simp length-set (at .inv .1),
-      copied-next (a .cells .now) (a .board .now) (at .board) 6 (2 * a .h .p) (at .k) (start .pre .1) (start .pre .2) (at .inv .1) (at .inv .2) (c .before .loop-test .taken),
-    )
-
-same-length : tie.Need-same-length Inv-loop μ-loop
-same-length c = c .before .loop .inv .1
-
-returns : tie.Need-returns Inv-loop μ-loop
-returns c =
+copy-values-requires : tie.Need-copy-values-requires
+copy-values-requires c κs =
     let start = c .before .before .before in
+    (start .pre .0 .few-p, start .pre .1, omega (arith, start .pre .2))
+
+same-length : tie.Need-same-length
+same-length c = search needs
+
+returns : tie.Need-returns
+returns c =
+    let start = c .before .before .before .before .before .before in
     let a = start .args in
-    let at = c .before .loop in
-    let run = drop 6 (a .cells .now) in
-    at .inv .2 ∙ ap (stored (a .board .now) 0) (take-all (at .k) (take (2 * a .h .p) run) (rw (length-take (2 * a .h .p) run) (omega arith)) ∙ sym (written-cells (a .cells .now) (headOf (a .h)) (start .pre .0) (start .pre .1)))
+    c .before .before .copy-values .ensures ∙ ap (stored (a .board .now) 0) (sym (written-cells (a .cells .now) (headOf (a .h)) (start .pre .0) (start .pre .1)))
 
 pub copy-written-spec : {M : Type 1} → statement M
-copy-written-spec =
-    tie.close
-    (tie.spec
-    Inv-loop
-    μ-loop
-    mul-end
-    loop-holds
-    add-board
-    mul-board
-    shared-slice-read-board
-    mul-board-2
-    slice-write-board
-    add-k
-    loop-less
-    loop-again
-    same-length
-    returns)
+copy-written-spec = tie.close (tie.spec copy-values-requires same-length returns)
