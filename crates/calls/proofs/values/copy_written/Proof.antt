@@ -11,7 +11,7 @@ use Rattle.calls.proofs.values.copy_written.Tie as tie
 copy-values-requires : tie.Need-copy-values-requires
 copy-values-requires c κs =
     let start = c .before .before .before in
-    (start .pre .0 .few-p, start .pre .1, omega (arith, start .pre .2))
+    (start .pre .0 .few-p, omega (arith, start .pre .1), omega (arith, start .pre .2))
 
 same-length : tie.Need-same-length
 same-length c = search needs
