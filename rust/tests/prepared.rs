@@ -41,6 +41,69 @@ fn prepared_lists_bind_as_their_records() {
     }
 }
 
+// Each parameter has its argument, in the list's order, however the arguments are written; and calls that just miss that. The two long names
+// differ in their last byte.
+#[test]
+fn calls_in_the_lists_order() {
+    let list = Signature::new("water").required("block").slash();
+    let list = list.required("start").required("irrigation_a").star();
+    let list = list.required("irrigation_b");
+    let prepared = Prepared::new(&list).unwrap();
+    let block = Call::new().positional("B3");
+    let start = block.clone().named("start", 400);
+    let calls = [
+        (
+            block.clone().items([400, 45]).named("irrigation_b", 1),
+            true,
+        ),
+        (
+            start
+                .clone()
+                .named("irrigation_a", 45)
+                .named("irrigation_b", 1),
+            true,
+        ),
+        (
+            start
+                .clone()
+                .entries([("irrigation_a", 45), ("irrigation_b", 1)]),
+            true,
+        ),
+        (
+            block
+                .clone()
+                .items([400, 45])
+                .entries([("irrigation_b", 1)]),
+            true,
+        ),
+        (
+            start
+                .clone()
+                .entries([("irrigation_b", 1), ("irrigation_a", 45)]),
+            true,
+        ),
+        (block.clone().items([400, 45, 1]), false),
+        (
+            start
+                .clone()
+                .named("irrigation_a", 45)
+                .named("irrigation_c", 1),
+            false,
+        ),
+        (
+            start
+                .named("irrigation_a", 45)
+                .entries([("irrigation_a", 1)]),
+            false,
+        ),
+    ];
+    for (call, accepted) in calls {
+        let bound = prepared.bind(&call);
+        assert_eq!(bound, collect(&list, &call));
+        assert_eq!(bound.is_ok(), accepted, "{call:?}");
+    }
+}
+
 #[test]
 fn a_list_that_is_refused_is_not_prepared() {
     let twice = Signature::new("f").slash().required("a").required("a");

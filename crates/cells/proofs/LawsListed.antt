@@ -45,6 +45,12 @@ module _ {X : Type 0} where
   pub listed-more : (at : ℕ → X) (n : ℕ) → listed at 0 (n + 1) ≡ listed at 0 n ++ at n ∷ []
   listed-more at n = rw add-one (listed-snoc at 0 n ∙ rw zero-add)
 
+  pub listed-append : (at : ℕ → X) (i m n : ℕ) → listed at i (m + n) ≡ listed at i m ++ listed at (i + m) n
+  listed-append at i zero n = rw (zero-add n, add-zero i)
+  listed-append at i (suc m) n =
+      let e : i + suc m ≡ suc i + m = omega arith in
+      rw (suc-add m n, e) (ap {B = List X} (λ l. at i ∷ l) (listed-append at (suc i) m n))
+
   pub snoc-same : {xs ys : List X} {x y : X} → xs ≡ ys → x ≡ y → xs ++ x ∷ [] ≡ ys ++ y ∷ []
   snoc-same d e = rw (d, e)
 

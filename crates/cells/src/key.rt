@@ -38,6 +38,14 @@ pub fn first_key(area: &[u8], start: usize, len: usize) -> u64
     word >> (64 - 8 * len)
 }
 
+// The same of one to eight bytes: those that are not wanted are shifted out.
+pub fn short_key(area: &[u8], start: usize, len: usize) -> u64
+    requires { ⌜ (start + 8 ≤ length (now area)) × (1 ≤ len) × (len ≤ 8) ⌝ }
+    ensures { λ r. ⌜ r ≡ keyOf (take len (drop start (now (area .entry)))) ⌝ }
+{
+    word_at(area, start) >> (64 - 8 * len)
+}
+
 // The last bytes of the text of a payload as one number.
 pub fn last_key(area: &[u8], payload: u64) -> u64
     requires { ⌜ inside (now area) payload ≡ true ⌝ }

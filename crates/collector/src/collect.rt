@@ -89,14 +89,14 @@ pub fn bind(
 }
 
 // How far a call is after 9 to 12 and the short path: at its end, or left open, with nothing written.
-pub enum Begun {
+enum Begun {
     Ended(Collected),
     Open(Head),
 }
 
 // 9 to 12, and the short path where it applies: it is for calls without names, so that 13 has nothing to ask. Of the list no more is asked than
 // how many parameters it has and how many are positional.
-pub fn begin(positional: usize, len: usize, cells: &[u64], area: &[u8], board: &mut [u64]) -> Begun
+fn begin(positional: usize, len: usize, cells: &[u64], area: &[u8], board: &mut [u64]) -> Begun
     ensures { λ r. ⌜ ((spec : List ℕ) (l : ParametersSpec) → Prepared spec l → l .indices .«num_positional» ≡ positional → l .params .len ≡ len → Beginning (parametersIn spec (l .params)) (now (cells .entry)) (now (area .entry)) (now (board .entry)) (now (board .exit)) r) ⌝ }
 {
     let asked = ask_keys(cells, area);

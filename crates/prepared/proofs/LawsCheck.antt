@@ -84,9 +84,6 @@ module _ (area cells : List ℕ) (n i least : ℕ) {whole : Bool} (left : whole 
   rows-end h = sym (left ∙ ap (rowsRight area least) (listed-end (rowAt cells) i n h))
 
   module _ (h : i < n) {r : Row} (er : r ≡ rowAt cells i) where
-    pub after : ℕ
-    after = rank (nextStyle (styleFor (r .style)) (act (r .step)))
-
     parts : (a b : Bool) → a ≡ leb least (r .style) → b ≡ rowRight area r
         → whole ≡ (a && b && rowsRight area (rank (nextStyle (styleFor (r .style)) (act (r .step)))) (listed (rowAt cells) (i + 1) (n - (i + 1))))
     parts a b ea eb = left ∙ ap (rowsRight area least) (listed-next (rowAt cells) i n h) ∙ rw (← er, ← ea, ← eb)
@@ -102,7 +99,7 @@ module _ (area cells : List ℕ) (n i least : ℕ) {whole : Bool} (left : whole 
       rows-next k next en = rw en (parts true true (sym (le-leb least (r .style) s)) (sym (not-false a k) ∙ ea))
 
 -- all rows are right where their question is answered by yes
-pub each-right : (area cells : List ℕ) (least i n : ℕ) → rowsRight area least (listed (rowAt cells) i n) ≡ true → (j : ℕ) → i ≤ j → j < i + n → rowRight area (rowAt cells j) ≡ true
+each-right : (area cells : List ℕ) (least i n : ℕ) → rowsRight area least (listed (rowAt cells) i n) ≡ true → (j : ℕ) → i ≤ j → j < i + n → rowRight area (rowAt cells j) ≡ true
 each-right area cells least i zero t j l u = absurd (omega arith)
 each-right area cells least i (suc n) t j l u = split (decLe (suc i) j) (each-right area cells next (suc i) n (and-right (leb least (r .style) && rowRight area r) rest t) j)
   where
@@ -122,13 +119,12 @@ each-right area cells least i (suc n) t j l u = split (decLe (suc i) j) (each-ri
     split (yes h) more = more h (omega arith)
     split (no h) more = here (omega arith)
 
+pub each-keyed : (area cells : List ℕ) (n : ℕ) → 2 + 6 * n ≤ length cells → ((j : ℕ) → j < n → rowRight area (rowAt cells j) ≡ true) → Keyed area cells n
+each-keyed area cells n h right =
+    record { long = h; named-inside = λ j u. right-inside area (rowAt cells j) (right j u); keys = λ j u. right-key area (rowAt cells j) (right j u) }
+
 pub rows-keyed : (area cells : List ℕ) (n : ℕ) → 2 + 6 * n ≤ length cells → rowsRight area 0 (listed (rowAt cells) 0 n) ≡ true → Keyed area cells n
-rows-keyed area cells n h t =
-    record {
-      long = h;
-      named-inside = λ j u. right-inside area (rowAt cells j) (each-right area cells 0 0 n t j (omega arith) (omega arith));
-      keys = λ j u. right-key area (rowAt cells j) (each-right area cells 0 0 n t j (omega arith) (omega arith));
-    }
+rows-keyed area cells n h t = each-keyed area cells n h (λ j u. each-right area cells 0 0 n t j (omega arith) (omega arith))
 
 pub keyed-below : (area cells : List ℕ) (n i : ℕ) → Keyed area cells n → i < n → Keyed area cells (i + 1)
 keyed-below area cells n i k h = record { long = omega (arith, k .long); named-inside = λ j u. k .named-inside j (omega arith); keys = λ j u. k .keys j (omega arith) }
@@ -161,35 +157,25 @@ module _ (p : ℕ → Parameter) (n i : ℕ) {whole : Bool} (left : whole ≡ na
 
 module _ (area cells : List ℕ) (n : ℕ) (en : n ≡ getD cells 0 0) where
   whole-of
-      : (a b d e f : Bool)
+      : (a b d : Bool)
       → a ≡ leb n 64
       → b ≡ leb (2 + 6 * n) (length cells)
       → d ≡ isText 1 area (getD cells 1 0)
-      → e ≡ rowsRight area 0 (listed (rowAt cells) 0 n)
-      → f ≡ namesApart [] (listed (paramAt area cells) 0 n)
-      → (a && b && d && e && f) ≡ isPrepared area cells
+      → (a && b && d && rowsRight area 0 (listed (rowAt cells) 0 n) && namesApart [] (listed (paramAt area cells) 0 n)) ≡ isPrepared area cells
   unfolding isPrepared preparedLength frontWidth rowWidth
-  whole-of a b d e f ea eb ed ee ef = rw (rows-listed, list-listed, ← en, ← ea, ← eb, ← ed, ← ee, ← ef)
+  whole-of a b d ea eb ed = rw (rows-listed, list-listed, ← en, ← ea, ← eb, ← ed)
 
   pub not-few : 64 < n → false ≡ isPrepared area cells
-  not-few h = whole-of false _ _ _ _ (sym (lt-leb n 64 h)) refl refl refl refl
+  not-few h = whole-of false _ _ (sym (lt-leb n 64 h)) refl refl
 
   module _ (few : n ≤ 64) where
     pub not-long : length cells < 2 + 6 * n → false ≡ isPrepared area cells
-    not-long h = whole-of true false _ _ _ (sym (le-leb n 64 few)) (sym (lt-leb (2 + 6 * n) (length cells) h)) refl refl refl
+    not-long h = whole-of true false _ (sym (le-leb n 64 few)) (sym (lt-leb (2 + 6 * n) (length cells) h)) refl
 
     module _ (long : 2 + 6 * n ≤ length cells) {d : Bool} (ed : d ≡ isText 1 area (getD cells 1 0)) where
       pub not-named : not d ≡ true → false ≡ isPrepared area cells
-      not-named k =
-          whole-of true true false _ _ (sym (le-leb n 64 few)) (sym (le-leb (2 + 6 * n) (length cells) long)) (sym (not-true d k) ∙ ed) refl refl
+      not-named k = whole-of true true false (sym (le-leb n 64 few)) (sym (le-leb (2 + 6 * n) (length cells) long)) (sym (not-true d k) ∙ ed)
 
-      module _ (kd : not d ≡ false) {e : Bool} (ee : e ≡ rowsRight area 0 (listed (rowAt cells) 0 n)) where
-        pub not-right : not e ≡ true → false ≡ isPrepared area cells
-        not-right k =
-            whole-of true true true false _ (sym (le-leb n 64 few)) (sym (le-leb (2 + 6 * n) (length cells) long)) (sym (not-false d kd) ∙ ed)
-            (sym (not-true e k) ∙ ee) refl
-
-        pub is-apart : not e ≡ false → {f : Bool} → f ≡ namesApart [] (listed (paramAt area cells) 0 n) → f ≡ isPrepared area cells
-        is-apart k {f} ef =
-            whole-of true true true true f (sym (le-leb n 64 few)) (sym (le-leb (2 + 6 * n) (length cells) long)) (sym (not-false d kd) ∙ ed)
-            (sym (not-false e k) ∙ ee) ef
+      pub is-asked
+          : not d ≡ false → {e : Bool} → e ≡ (rowsRight area 0 (listed (rowAt cells) 0 n) && namesApart [] (listed (paramAt area cells) 0 n)) → e ≡ isPrepared area cells
+      is-asked k ee = ee ∙ whole-of true true true (sym (le-leb n 64 few)) (sym (le-leb (2 + 6 * n) (length cells) long)) (sym (not-false d k) ∙ ed)

@@ -1,19 +1,19 @@
--- Laws of the rows of a prepared list, in this order: by consuming the cells they are those by index; the key of a name; which codes may
--- stand under which style, and the style that follows; what a row by itself is asked; a search for a name over rows.
+-- Laws of the rows of a prepared list, in this order: by consuming the cells they are those by index; which codes may stand under which
+-- style, and the style that follows; a name with its key; what a row by itself is asked; a search for a name over rows.
 -- Assumes nothing.
 use mathlib.Core.Path.{_≡_, refl, sym, ap, _∙_}
-use mathlib.Core.Bool.{Bool, true, false, not, _&&_}
+use mathlib.Core.Bool.{Bool, true, false, not, _&&_, and-true, and-false}
 use mathlib.Core.List.{List, _∷_, map}
-use Prim.Native.Nat.{ℕ, zero, suc, _+_, _*_, _<_, _≤_}
+use Prim.Native.Nat.{ℕ, zero, suc, _+_, _*_, _/_, _%_, _<_, _≤_}
 use native.Mathlib.Nat.{add-zero}
 use native.Mathlib.Omega.{arith}
-use lib.Dec.{ltb, eqb}
-use lib.ListN.{drop, getD}
+use lib.Dec.{ltb, leb, eqb}
+use lib.ListN.{length, drop, getD}
 use lib.Seq.{drop-drop, getD-drop}
 use native.Mathlib.Decide.{decLe}
-use borrow.Author.Tests.{le-ltb, eqb-true, eqb-false, not-true, not-false}
+use borrow.Author.Tests.{le-ltb, le-leb, lt-leb, eqb-true, eqb-false, not-true, not-false}
 use Rattle.rules.specs.Cells.{readEach}
-use Rattle.rules.specs.Text.{textIn, bytesAt, sameBytes}
+use Rattle.rules.specs.Text.{startOf, sizeOf, textIn, bytesAt, inside, isText, sameBytes}
 use Rattle.rules.specs.Value.{Value, noValue, readValue}
 use Rattle.rules.specs.Parameters.{Parameter, noMore, namedOnly, act, actOf, comesBefore, nextStyle, rank, nameable}
 use Rattle.rules.specs.ParameterQuestions.{stepName, usesRight}
@@ -21,7 +21,7 @@ use Rattle.rules.specs.Lookup.{names, known}
 use Rattle.rules.proofs.LawsText.{sameBytes-eq}
 use Rattle.cells.specs.Listed.{listed}
 use Rattle.builder.specs.Params.{styleFor, parameterOf, mayBeNamed}
-use Rattle.builder.proofs.LawsCodes.{code-3, code-4, code-0}
+use Rattle.builder.proofs.LawsCodes.{code-3, code-4, code-0, hasName-3, hasName-4}
 use Rattle.builder.proofs.LawsParams.{plain-any}
 use Rattle.cells.specs.Text.{keyOf}
 use Rattle.prepared.specs.Prepared.{Row, readRow, rowWidth, frontWidth, rowsIn, listIn, parameterOfRow, rowRight}
@@ -129,33 +129,80 @@ module _ (code style : ℕ) (v : Value) where
       split (yes l) = code-3 (λ n. style ≡ rank (nextStyle (styleFor style) (actOf n v))) (rank-number style h) (rank-number style h) (rank-number style h) code l u
       split (no l) = absurd (never (stands-0 style v code (omega arith) ∙ t))
 
--- ---- a row by itself: a answers where it stands, b its name, d its default and unused cells, k is its name's key
+-- ---- a name with its key: whether it is a parameter's name, and the key is its own
+
+module _ (area : List ℕ) (name : ℕ) where
+  pub text-start : 16777215 < name → isText 1 area name ≡ false
+  unfolding isText inside startOf
+  text-start h = rw (lt-leb (name / 256) 65535 (omega arith))
+
+  pub text-none : name % 256 ≡ 0 → isText 1 area name ≡ false
+  unfolding isText sizeOf
+  text-none e = rw (lt-leb 1 (name % 256) (omega arith), and-false (inside area name))
+
+  pub text-long : 64 < name % 256 → isText 1 area name ≡ false
+  unfolding isText sizeOf
+  text-long h = rw (lt-leb (name % 256) 64 h) (and-false (inside area name && leb 1 (name % 256)))
+
+  pub text-end : length area < name / 256 + name % 256 → isText 1 area name ≡ false
+  unfolding isText inside startOf sizeOf
+  text-end h = rw (lt-leb (name / 256 + name % 256) (length area) h, and-false (leb (name / 256) 65535))
+
+  pub text-right : name ≤ 16777215 → (name % 256 ≡ 0 → ⊥) → name % 256 ≤ 64 → name / 256 + name % 256 ≤ length area → isText 1 area name ≡ true
+  unfolding isText inside startOf sizeOf
+  text-right s n l e = rw (le-leb (name / 256) 65535 (omega arith), le-leb (name / 256 + name % 256) (length area) e, le-leb 1 (name % 256) (omega arith), le-leb (name % 256) 64 l)
+
+  module _ (key : ℕ) where
+    pub not-named : isText 1 area name ≡ false → false ≡ (isText 1 area name && eqb key (keyOf (bytesAt area name)))
+    not-named e = rw e
+
+    pub named-key : isText 1 area name ≡ true → {k : ℕ} → k ≡ keyOf (bytesAt area name) → eqb key k ≡ (isText 1 area name && eqb key (keyOf (bytesAt area name)))
+    named-key e ek = rw (e, ek)
+
+-- ---- a row by itself: a answers where it stands, d its default and unused cells, w its name with its key where it has one, k is its name's key
 
 module _ (area : List ℕ) (r : Row) where
+  abbrev keyed : Bool
+  keyed = eqb (r .key) (keyOf (bytesAt area (r .step .name)))
+
   right-of
-      : (a b d e : Bool)
+      : (a b d : Bool)
       → a ≡ stands (r .step .code) (r .style) (r .step .default)
       → b ≡ stepName area (r .step)
       → d ≡ usesRight area (act (r .step)) (r .step .name) (r .step .default)
-      → e ≡ eqb (r .key) (keyOf (bytesAt area (r .step .name)))
-      → (a && b && d && e) ≡ rowRight area r
+      → (a && b && d && keyed) ≡ rowRight area r
   unfolding rowRight act
-  right-of a b d e ea eb ed ee = rw (ea, eb, ed, ee)
+  right-of a b d ea eb ed = rw (ea, eb, ed)
+
+  -- those of codes 1 to 3 have a name
+  name-3 : r .step .code < 4 → stands (r .step .code) (r .style) (r .step .default) ≡ true → isText 1 area (r .step .name) ≡ stepName area (r .step)
+  unfolding stepName act
+  name-3 u t = split (decLe 1 (r .step .code))
+    where
+      split : Dec (1 ≤ r .step .code) → isText 1 area (r .step .name) ≡ stepName area (r .step)
+      split (yes l) = rw (hasName-3 (r .step .default) (r .step .code) l u)
+      split (no l) = absurd (never (stands-0 (r .style) (r .step .default) (r .step .code) (omega arith) ∙ t))
+
+  name-4 : 4 ≤ r .step .code → true ≡ stepName area (r .step)
+  unfolding stepName act
+  name-4 l = rw (hasName-4 (r .step .default) (r .step .code) l)
 
   module _ {a : Bool} (ea : a ≡ stands (r .step .code) (r .style) (r .step .default)) where
     pub right-stands : not a ≡ true → false ≡ rowRight area r
-    right-stands n = rw (not-true a n) at (right-of a _ _ _ ea refl refl refl)
+    right-stands n = rw (not-true a n) at (right-of a _ _ ea refl refl)
 
-    module _ (ta : not a ≡ false) {b : Bool} (eb : b ≡ stepName area (r .step)) where
-      pub right-name : not b ≡ true → false ≡ rowRight area r
-      right-name n = rw (not-false a ta, not-true b n) at (right-of a b _ _ ea eb refl refl)
+    module _ (ta : not a ≡ false) {d : Bool} (ed : d ≡ usesRight area (act (r .step)) (r .step .name) (r .step .default)) where
+      pub right-uses : not d ≡ true → false ≡ rowRight area r
+      right-uses n = rw (not-true d n, and-false (a && stepName area (r .step))) at (right-of a _ d ea refl ed)
 
-      module _ (tb : not b ≡ false) {d : Bool} (ed : d ≡ usesRight area (act (r .step)) (r .step .name) (r .step .default)) where
-        pub right-uses : not d ≡ true → false ≡ rowRight area r
-        right-uses n = rw (not-false a ta, not-false b tb, not-true d n) at (right-of a b d _ ea eb ed refl)
+      module _ (td : not d ≡ false) where
+        pub right-name : r .step .code < 4 → {w : Bool} → w ≡ (isText 1 area (r .step .name) && keyed) → w ≡ rowRight area r
+        right-name u ew =
+            ew
+            ∙ rw (not-false a ta, not-false d td, and-true (isText 1 area (r .step .name))) at (right-of a (isText 1 area (r .step .name)) d ea (name-3 u (sym ea ∙ not-false a ta)) ed)
 
-        pub right-key : not d ≡ false → {k : ℕ} → k ≡ keyOf (bytesAt area (r .step .name)) → eqb (r .key) k ≡ rowRight area r
-        right-key td {k} ek = rw (not-false a ta, not-false b tb, not-false d td) at (right-of a b d (eqb (r .key) k) ea eb ed (ap (eqb (r .key)) ek))
+        pub right-key : 4 ≤ r .step .code → {k : ℕ} → k ≡ keyOf (bytesAt area (r .step .name)) → eqb (r .key) k ≡ rowRight area r
+        right-key l ek = ap (eqb (r .key)) ek ∙ (rw (not-false a ta, not-false d td) at (right-of a true d ea (name-4 l) ed))
 
 -- ---- a search for a name over rows
 
@@ -213,6 +260,3 @@ known-bytes area cells bytes i qs eb = ap (λ n. known qs (bytesAt area n)) (nam
 pub may-be-named-cells : (cells : List ℕ) (i : ℕ) → mayBeNamed (rowAt cells i .step .code) (rowAt cells i .style) ≡ mayBeNamed (getD cells (2 + 6 * i) 0) (getD cells (2 + 6 * i + 1) 0)
 may-be-named-cells cells i = ap (λ (r : Row). mayBeNamed (r .step .code) (r .style)) (rowAt-cells cells i)
 
-pub nameable-cells : (area cells : List ℕ) (i : ℕ) → nameable (paramAt area cells i) ≡ mayBeNamed (getD cells (2 + 6 * i) 0) (getD cells (2 + 6 * i + 1) 0)
-unfolding paramAt
-nameable-cells area cells i = nameable-row area (rowAt cells i) ∙ may-be-named-cells cells i

@@ -26,7 +26,7 @@ use Rattle.rules.proofs.LawsCut.{name-key}
 use Rattle.rules.proofs.LawsFound.{fromP-at}
 use Rattle.cells.specs.Record.{pairAt}
 use Rattle.cells.specs.Listed.{listed}
-use Rattle.cells.proofs.LawsListed.{length-listed, getD-listed}
+use Rattle.cells.proofs.LawsListed.{length-listed, listed-append, getD-listed}
 use Rattle.calls.specs.Head.{Few, namedFrom, itemsFrom, entriesFrom}
 use Rattle.calls.specs.Runs.{pairsAt}
 use Rattle.calls.proofs.LawsNamed.{word-text}
@@ -47,10 +47,6 @@ next : (i k : ℕ) → i + suc k ≡ suc i + k
 next i k = omega arith
 
 module _ {X : Type 0} (f : ℕ → X) where
-  listed-append : (i m n : ℕ) → listed f i (m + n) ≡ listed f i m ++ listed f (i + m) n
-  listed-append i zero n = rw (zero-add n, add-zero i)
-  listed-append i (suc m) n = rw (suc-add m n, next i m) (ap {B = List X} (λ l. f i ∷ l) (listed-append (suc i) m n))
-
   drop-listed : (i m n : ℕ) → drop m (listed f i (m + n)) ≡ listed f (i + m) n
   drop-listed i zero n = rw (zero-add n, add-zero i)
   drop-listed i (suc m) n = rw (suc-add m n, next i m) (drop-listed (suc i) m n)

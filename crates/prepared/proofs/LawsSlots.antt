@@ -1,4 +1,4 @@
--- Laws of the slots by which `names_apart` sees that a name is new: the slot of each nameable row so far is marked, so a row whose slot is
+-- Laws of the slots by which `rows_right` sees that a name is new: the slot of each nameable row so far is marked, so a row whose slot is
 -- not has a name of its own. Assumes nothing.
 use mathlib.Core.Path.{_≡_, refl, sym, ap, _∙_}
 use mathlib.Core.Bool.{Bool, true, false}
@@ -18,11 +18,10 @@ use Rattle.cells.specs.Listed.{listed}
 use Rattle.rules.proofs.LawsListing.{and-right}
 use Rattle.rules.proofs.LawsText.{sameBytes-eq}
 use Rattle.cells.specs.Text.{lastKey}
-use Rattle.cells.proofs.LawsWord.{last-few, bytes-few}
 use Rattle.builder.specs.Params.{parameterOf, mayBeNamed}
 use Rattle.prepared.specs.Prepared.{parameterOfRow}
 use Rattle.prepared.specs.Rows.{rowAt, paramAt, slotAt, Keyed}
-use Rattle.prepared.proofs.LawsRows.{never, key-cell, name-cell}
+use Rattle.prepared.proofs.LawsRows.{never, name-cell}
 
 any-none : {X : Type 0} (test : X → Bool) (at : ℕ → X) (i n : ℕ) → ((j : ℕ) → i ≤ j → j < i + n → test (at j) ≡ false) → any test (listed at i n) ≡ false
 any-none test at i zero f = refl
@@ -40,16 +39,8 @@ unfolding slotAt
 slot-below area cells i = omega arith
 
 module _ (area cells : List ℕ) (i : ℕ) (k : Keyed area cells (i + 1)) where
-  pub slot-short : getD cells (2 + 6 * i + 2) 0 % 256 ≤ 8 → getD cells (2 + 6 * i + 5) 0 % 929 ≡ slotAt area cells i
-  unfolding slotAt
-  slot-short h = ap (λ n. n % 929) (sym (key-cell cells i) ∙ k .keys i (omega arith) ∙ last-few (bytesAt area (rowAt cells i .step .name)) (bytes-few area (rowAt cells i .step .name) (rw (name-cell cells i) h)))
-
   pub slot-inside : mayBeNamed (rowAt cells i .step .code) (rowAt cells i .style) ≡ true → inside area (getD cells (2 + 6 * i + 2) 0) ≡ true
   slot-inside m = rw (name-cell cells i) at (k .named-inside i (omega arith) m)
-
-  pub slot-long : {key : ℕ} → key ≡ lastKey (bytesAt area (getD cells (2 + 6 * i + 2) 0)) → key % 929 ≡ slotAt area cells i
-  unfolding slotAt
-  slot-long e = ap (λ n. n % 929) (e ∙ ap (λ n. lastKey (bytesAt area n)) (sym (name-cell cells i)))
 
 -- a row that names these bytes has their slot
 named-slot : (area cells bytes : List ℕ) (j : ℕ) → names bytes (paramAt area cells j) ≡ true → lastKey bytes % 929 ≡ slotAt area cells j

@@ -5,6 +5,7 @@ pub mod LawsPreparedOnly
 pub mod LawsRows
 pub mod LawsCheck
 pub mod LawsSlots
+pub mod LawsRowsLoop
 pub mod LawsLoad
 pub mod LawsNamedAfter
 pub mod LawsBind

@@ -4,6 +4,7 @@ use crate::row::FRONT;
 use crate::row::KEY;
 use crate::row::NAME;
 use crate::row::ROW;
+use crate::row::SLOTS;
 use crate::row::STYLE;
 use crate::row::row_at;
 use crate::row::style_after;
@@ -11,11 +12,10 @@ use builder::params::CAPACITY;
 use builder::params::Step;
 use builder::params::bytes_at;
 use builder::params::may_be_named;
-use cells::key::last_key;
 use cells::record::cell;
 use cells::text::same;
 ghost use mathlib.Core.Path.{_≡_};
-ghost use mathlib.Core.Bool.{true};
+ghost use mathlib.Core.Bool.{_&&_};
 ghost use mathlib.Core.List.{[]};
 ghost use Prim.Native.Nat.{_+_, _*_, _≤_};
 ghost use lib.ListN.{length};
@@ -24,10 +24,9 @@ ghost use Rattle.rules.specs.Lookup.{names, known};
 ghost use Rattle.rules.specs.Passed.{namesApart};
 ghost use Rattle.cells.specs.Listed.{listed};
 ghost use Rattle.prepared.specs.Prepared.{isPrepared, rowsRight};
-ghost use Rattle.builder.specs.Params.{mayBeNamed};
-ghost use Rattle.prepared.specs.Rows.{rowAt, paramAt, slotAt, Keyed};
+ghost use Rattle.prepared.specs.Rows.{rowAt, paramAt, Keyed};
 
-// The head first, then the rows, and the names last: they are told apart by keys, which must be right.
+// The head first, and then the rows.
 pub fn is_prepared(cells: &[u64], area: &[u8]) -> bool
     ensures { λ r. ⌜ r ≡ isPrepared (now (area .entry)) (now (cells .entry)) ⌝ }
 {
@@ -42,10 +41,7 @@ pub fn is_prepared(cells: &[u64], area: &[u8]) -> bool
     if !is_name(area, cells[1]) {
         return false;
     }
-    if !rows_right(cells, area, n) {
-        return false;
-    }
-    names_apart(cells, area, n)
+    rows_right(cells, area, n)
 }
 
 // A function's name is one where a required parameter's would be.
@@ -61,11 +57,13 @@ fn is_name(area: &[u8], name: u64) -> bool
     step.name_inside(area)
 }
 
-// Each of the n rows is right by itself, and none stands under a style that comes before the one that the row before it leads to.
+// Each of the n rows is right by itself, none stands under a style that comes before the one that the row before it leads to, and no nameable
+// name comes twice. Equal names have one slot: a name whose slot is unused so far is new, and only another one is compared with those before.
 fn rows_right(cells: &[u64], area: &[u8], n: usize) -> bool
     requires { ⌜ 2 + 6 * n ≤ length (now cells) ⌝ }
-    ensures { λ r. ⌜ r ≡ rowsRight (now (area .entry)) 0 (listed (rowAt (now (cells .entry))) 0 n) ⌝ }
+    ensures { λ r. ⌜ r ≡ (rowsRight (now (area .entry)) 0 (listed (rowAt (now (cells .entry))) 0 n) && namesApart [] (listed (paramAt (now (area .entry)) (now (cells .entry))) 0 n)) ⌝ }
 {
+    let mut used: [u8; SLOTS] = [0; SLOTS];
     let mut least: u64 = 0;
     let mut i = 0;
     while i < n {
@@ -76,27 +74,8 @@ fn rows_right(cells: &[u64], area: &[u8], n: usize) -> bool
         if !row.is_right(area) {
             return false;
         }
-        least = style_after(row.code, row.style);
-        i += 1;
-    }
-    true
-}
-
-// How many slots there are for names, as in question 13.
-const SLOTS: usize = 929;
-
-// No nameable name comes twice. Equal names have one slot: a name whose slot is unused so far is new, and only another one is compared with
-// those before it.
-fn names_apart(cells: &[u64], area: &[u8], n: usize) -> bool
-    requires { ⌜ Keyed (now area) (now cells) n ⌝ }
-    ensures { λ r. ⌜ r ≡ namesApart [] (listed (paramAt (now (area .entry)) (now (cells .entry))) 0 n) ⌝ }
-{
-    let mut used: [u8; SLOTS] = [0; SLOTS];
-    let mut i = 0;
-    while i < n {
-        let at = FRONT + ROW * i;
-        if may_be_named(cells[at], cells[at + STYLE]) {
-            let slot = slot_at(cells, area, i);
+        if may_be_named(row.code, row.style) {
+            let slot = row.slot(area);
             if used[slot] == 1 {
                 if known_before(cells, area, i) {
                     return false;
@@ -104,22 +83,10 @@ fn names_apart(cells: &[u64], area: &[u8], n: usize) -> bool
             }
             used[slot] = 1;
         }
+        least = style_after(row.code, row.style);
         i += 1;
     }
     true
-}
-
-// The slot of a nameable row's name, by its last bytes: those of a short name are its key.
-fn slot_at(cells: &[u64], area: &[u8], i: usize) -> usize
-    requires { ⌜ Keyed (now area) (now cells) (i + 1) × (mayBeNamed (rowAt (now cells) i .step .code) (rowAt (now cells) i .style) ≡ true) ⌝ }
-    ensures { λ r. ⌜ r ≡ slotAt (now (area .entry)) (now (cells .entry)) i ⌝ }
-{
-    let at = FRONT + ROW * i;
-    let name = cells[at + NAME];
-    if name % 256 <= 8 {
-        return (cells[at + KEY] as usize) % SLOTS;
-    }
-    (last_key(area, name) as usize) % SLOTS
 }
 
 // Is row i's name that of a nameable row before it? Equal names have equal keys, so only rows with its key are looked at further.

@@ -2,16 +2,19 @@
 use builder::params::Step;
 use builder::params::bytes_at;
 use cells::key::first_key;
+use cells::key::last_key;
+use cells::key::short_key;
 use cells::text;
 ghost use mathlib.Core.Path.{_≡_};
-ghost use mathlib.Core.Bool.{true};
-ghost use Prim.Native.Nat.{_+_, _*_, _<_, _≤_};
+ghost use mathlib.Core.Bool.{true, _&&_};
+ghost use Prim.Native.Nat.{_+_, _*_, _%_, _<_, _≤_};
+ghost use lib.Dec.{eqb};
 ghost use lib.ListN.{length};
-ghost use Rattle.rules.specs.Text.{bytesAt};
+ghost use Rattle.rules.specs.Text.{bytesAt, inside, isText};
 ghost use Rattle.rules.specs.Value.{Value};
 ghost use Rattle.rules.specs.Parameters.{actOf, nextStyle, rank};
 ghost use Rattle.builder.specs.Params.{stepOf, styleFor};
-ghost use Rattle.cells.specs.Text.{keyOf};
+ghost use Rattle.cells.specs.Text.{keyOf, lastKey};
 ghost use Rattle.prepared.specs.Prepared.{rowRight};
 ghost use Rattle.prepared.specs.Rows.{rowIn, rowAt, stands};
 
@@ -30,6 +33,9 @@ pub const DEFAULT_KIND: usize = 3;
 pub const DEFAULT_PAYLOAD: usize = 4;
 
 pub const KEY: usize = 5;
+
+// How many slots there are for names, as in question 13.
+pub const SLOTS: usize = 929;
 
 // The cells of a row: a step's, the number of the style under which the parameter was added, and the key of its name.
 pub struct Row {
@@ -111,6 +117,17 @@ impl Row {
         }
     }
 
+    // The slot of its name, by the last bytes: those of a short name are its key.
+    pub(crate) fn slot(self, area: &[u8]) -> usize
+        requires { ⌜ (inside (now area) (self .name) ≡ true) × (self .key ≡ keyOf (bytesAt (now area) (self .name))) ⌝ }
+        ensures { λ r. ⌜ r ≡ lastKey (bytesAt (now (area .entry)) (self .name)) % 929 ⌝ }
+    {
+        if self.name % 256 <= 8 {
+            return (self.key as usize) % SLOTS;
+        }
+        (last_key(area, self.name) as usize) % SLOTS
+    }
+
     // All that a row by itself is asked.
     pub(crate) fn is_right(self, area: &[u8]) -> bool
         ensures { λ r. ⌜ r ≡ rowRight (now (area .entry)) (rowIn self) ⌝ }
@@ -119,12 +136,38 @@ impl Row {
             return false;
         }
         let step = self.step();
-        if !step.name_inside(area) {
-            return false;
-        }
         if !step.uses_right(area) {
             return false;
         }
+        if self.code < 4 {
+            return name_right(area, self.name, self.key);
+        }
         self.key == key_of(area, self.name)
     }
+}
+
+// Is this the name of a parameter, and its key the other? A short name where eight bytes can be read lies inside the area, and is read in one go.
+fn name_right(area: &[u8], name: u64, key: u64) -> bool
+    ensures { λ r. ⌜ r ≡ (isText 1 (now (area .entry)) name && eqb key (keyOf (bytesAt (now (area .entry)) name))) ⌝ }
+{
+    if 0xff_ffff < name {
+        return false;
+    }
+    let start = (name / 256) as usize;
+    let len = (name % 256) as usize;
+    if len == 0 {
+        return false;
+    }
+    if start + 8 <= area.len() {
+        if len <= 8 {
+            return key == short_key(area, start, len);
+        }
+    }
+    if 64 < len {
+        return false;
+    }
+    if area.len() < start + len {
+        return false;
+    }
+    key == key_of(area, name)
 }

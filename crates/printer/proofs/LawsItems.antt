@@ -5,7 +5,7 @@ use mathlib.Core.Path.{_≡_, refl, sym, ap, ap₂, _∙_}
 use mathlib.Core.Bool.{Bool, true, false, cond, _&&_, false≢true}
 use mathlib.Core.List.{List, [], _∷_, _++_, map}
 use Prim.Native.Nat.{ℕ, zero, suc, _+_, _-_, _≤_, _<_}
-use native.Mathlib.Nat.{zero-add, add-zero, suc-add}
+use native.Mathlib.Nat.{zero-add}
 use native.Mathlib.Omega.{arith}
 use lib.Dec.{eqb}
 use lib.ListN.{getD}
@@ -20,7 +20,7 @@ use Rattle.builder.specs.Params.{styleFor, kindFor, parameterOf, parameterAt, p
 use Rattle.builder.specs.declared.params.Parameters.{Parameters}
 use Rattle.builder.proofs.LawsCodes.{code-4, plain-code, plain-above}
 use Rattle.builder.proofs.LawsParams.{plain-any}
-use Rattle.cells.proofs.LawsListed.{listed-more}
+use Rattle.cells.proofs.LawsListed.{listed-more, listed-append}
 use Rattle.printer.specs.declared.line.Line.{Line}
 use Rattle.printer.specs.Line.{markFor, Room, Added}
 use Rattle.printer.specs.Items.{under, isUnder}
@@ -135,12 +135,6 @@ items-at s area p i text e u t =
     its-item = ap₂ (λ a b. a ++ b) (sym t) (mark-any (getD (p .codes) i 0) _)
 
 -- ---- a loop over the columns: the items before an index, the one at it, and those behind it
-
-listed-append : {X : Type 0} (at : ℕ → X) (j i m : ℕ) → listed at j (i + m) ≡ listed at j i ++ listed at (j + i) m
-listed-append at j zero m = rw (zero-add m, add-zero j)
-listed-append {X = X} at j (suc i) m =
-    let e : suc j + i ≡ j + suc i = omega arith in
-    rw (suc-add i m, ← e) (ap {B = List X} (λ r. at j ∷ r) (listed-append at (suc j) i m))
 
 -- none at first
 pub items-none : (s : Style) (area : List ℕ) (p : Parameters) (line : Line) (out : List ℕ) → Room (itemsOf (under s) (parametersIn area p)) line out

@@ -1,10 +1,8 @@
 -- `prepared::check::is_prepared` meets its contract, from the answers of its callees, one after the other.
 -- Assumes nothing.
-use mathlib.Core.Path.{sym, _∙_}
 use native.Mathlib.Omega.{arith}
-use borrow.Author.Tests.{not-false}
 use borrow.Author.Needs.{needs}
-use Rattle.prepared.proofs.LawsCheck.{not-few, not-long, not-named, not-right, is-apart, rows-keyed}
+use Rattle.prepared.proofs.LawsCheck.{not-few, not-long, not-named, is-asked}
 use Rattle.prepared.proofs.check.is_prepared.Statement.{statement}
 use Rattle.prepared.proofs.check.is_prepared.Tie as tie
 
@@ -49,30 +47,12 @@ rows-right-requires c κs = search needs
 
 returns-4 : tie.Need-returns-4
 returns-4 c =
-    let right = c .before in
-    let named = right .before .before in
+    let named = c .before .before in
     let long = named .before .before in
     let read = long .before .before in
     let a = read .before .before .before .args in
-    not-right (a .area .now) (a .cells .now) (read .cell .result) (read .cell .ensures) (long .before .if1 .left) (long .if2 .left) (named .is-name .ensures)
-    (right .before .if3 .left) (right .rows-right .ensures) (c .if4 .taken)
-
-names-apart-requires : tie.Need-names-apart-requires
-names-apart-requires c κs =
-    let right = c .before in
-    let long = right .before .before .before .before in
-    rows-keyed _ _ (long .before .before .cell .result) (long .if2 .left)
-    (sym (right .rows-right .ensures) ∙ not-false (right .rows-right .result) (c .if4 .left))
-
-returns-5 : tie.Need-returns-5
-returns-5 c =
-    let right = c .before .before in
-    let named = right .before .before in
-    let long = named .before .before in
-    let read = long .before .before in
-    let a = read .before .before .before .args in
-    is-apart (a .area .now) (a .cells .now) (read .cell .result) (read .cell .ensures) (long .before .if1 .left) (long .if2 .left) (named .is-name .ensures)
-    (right .before .if3 .left) (right .rows-right .ensures) (c .before .if4 .left) (c .names-apart .ensures)
+    is-asked (a .area .now) (a .cells .now) (read .cell .result) (read .cell .ensures) (long .before .if1 .left) (long .if2 .left) (named .is-name .ensures)
+    (c .before .if3 .left) (c .rows-right .ensures)
 
 pub is-prepared-spec : {M : Type 1} → statement M
 is-prepared-spec =
@@ -87,6 +67,4 @@ is-prepared-spec =
     is-name-requires
     returns-3
     rows-right-requires
-    returns-4
-    names-apart-requires
-    returns-5)
+    returns-4)

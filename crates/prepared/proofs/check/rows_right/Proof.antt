@@ -1,59 +1,92 @@
 -- `prepared::check::rows_right` meets its contract. The loop's invariant: the answer is the answer for the rows that are left, from the
--- style on that the row before them leads to. The measure is how many are left. Assumes nothing.
-use mathlib.Core.Path.{_≡_, sym, _∙_}
-use Prim.Native.Nat.{_≤_, _-_}
-use native.Mathlib.Nat.{sub-zero}
-use borrow.Author.Tests.{not-false}
+-- style on that the row before them leads to and against the names before them; each row before them is right, and its slot marked where
+-- it is nameable. The measure is how many are left. Assumes nothing.
+use mathlib.Core.Path.{refl}
+use mathlib.Core.Logic.{⊎-elim}
+use Prim.Native.Nat.{_-_}
 use borrow.Author.Needs.{needs}
-use Rattle.rules.specs.Parameters.{act}
-use Rattle.cells.specs.Listed.{listed}
-use Rattle.prepared.specs.Rows.{rowIn, rowAt}
-use Rattle.prepared.specs.Prepared.{rowsRight}
-use Rattle.prepared.proofs.LawsCheck.{right-style, right-stands, rows-end, rows-style, rows-row, rows-next}
+use Rattle.prepared.specs.Rows.{rowIn}
+use Rattle.prepared.proofs.LawsRowsLoop.{asked, SoFar, Right, so-far-none, all-asked, too-early, row-wrong, row-right, keyed-here, style-here, slot-within, slot-asked, twice, on-unnamed, on-unknown, on-new}
 use Rattle.prepared.proofs.check.rows_right.Statement.{statement}
 use Rattle.prepared.proofs.check.rows_right.Tie as tie
 
 abbrev Inv-loop : tie.InvT-loop
-Inv-loop cells area n least₀ i₀ least i =
-    (i ≤ n) × (rowsRight area 0 (listed (rowAt cells) 0 n) ≡ rowsRight area least (listed (rowAt cells) i (n - i)))
+Inv-loop cells area n used₀ least₀ i₀ used least i = SoFar area cells n used least i
 
 abbrev μ-loop : tie.MeasureT-loop
-μ-loop cells area n least₀ i₀ least i = n - i
+μ-loop cells area n used₀ least₀ i₀ used least i = n - i
 
 loop-holds : tie.Need-loop-holds Inv-loop μ-loop
-loop-holds c = (search needs, rw sub-zero)
+loop-holds c = so-far-none _ _ _ _ refl
 
 row-at-requires : tie.Need-row-at-requires Inv-loop μ-loop
 row-at-requires c κs = search needs
 
 returns : tie.Need-returns Inv-loop μ-loop
-unfolding rowIn
+unfolding asked rowIn
 returns c =
     let read = c .before .before in
     let at = read .before .before .loop in
     let a = read .before .before .before .before .before .args in
-    rows-style (a .area .now) (a .cells .now) (a .n) (at .i) (at .least) (at .inv .1) (read .before .loop-test .taken) (read .row-at .ensures) (c .if1 .taken)
+    too-early (a .area .now) (a .cells .now) (a .n) (at .used) (at .least) (at .i) (at .inv) (read .before .loop-test .taken) (read .row-at .ensures) (c .if1 .taken)
 
 is-right-requires : tie.Need-is-right-requires Inv-loop μ-loop
 is-right-requires c κs = search needs
 
 returns-2 : tie.Need-returns-2 Inv-loop μ-loop
-unfolding rowIn
+unfolding asked rowIn
 returns-2 c =
-    let right = c .before in
-    let read = right .before .before .before in
+    let told = c .before in
+    let read = told .before .before .before in
     let at = read .before .before .loop in
     let a = read .before .before .before .before .before .args in
-    rows-row (a .area .now) (a .cells .now) (a .n) (at .i) (at .least) (at .inv .1) (read .before .loop-test .taken) (read .row-at .ensures) (right .before .if1 .left)
-    (right .is-right .ensures) (c .if2 .taken)
+    row-wrong (a .area .now) (a .cells .now) (a .n) (at .used) (at .least) (at .i) (at .inv) (read .before .loop-test .taken) (read .row-at .ensures) (told .before .if1 .left)
+    (told .is-right .ensures) (c .if2 .taken)
+
+may-be-named-requires : tie.Need-may-be-named-requires Inv-loop μ-loop
+may-be-named-requires c κs = search needs
+
+-- row i is right, and not too early
+right : (c : tie.Else2 Inv-loop μ-loop)
+    → let read = c .before .before .before .before in
+    let at = read .before .before .loop in
+    let a = read .before .before .before .before .before .args in
+    Right (a .area .now) (a .cells .now) (a .n) (at .used) (at .least) (at .i) (rowIn (read .row-at .result))
+unfolding rowIn
+right c =
+    let told = c .before in
+    let read = told .before .before .before in
+    let at = read .before .before .loop in
+    let a = read .before .before .before .before .before .args in
+    row-right (a .area .now) (a .cells .now) (a .n) (at .used) (at .least) (at .i) (at .inv) (read .before .loop-test .taken) (read .row-at .ensures) (told .before .if1 .left)
+    (told .is-right .ensures) (c .if2 .left)
+
+slot-requires : tie.Need-slot-requires Inv-loop μ-loop
+unfolding rowIn
+slot-requires c κs = slot-asked (right (c .before .before)) (c .before .may-be-named .ensures) (c .if3 .taken)
+
+array-read-if4 : tie.Need-array-read-if4 Inv-loop μ-loop
+unfolding rowIn
+array-read-if4 c = slot-within (right (c .before .before .before)) (c .slot .ensures)
+
+known-before-requires : tie.Need-known-before-requires Inv-loop μ-loop
+known-before-requires c κs =
+    let here = c .before .before .before .before in
+    keyed-here (right here) (here .before .before .before .before .before .before .before .before .before .pre)
+
+returns-3 : tie.Need-returns-3 Inv-loop μ-loop
+unfolding asked rowIn
+returns-3 c =
+    let named = c .before .before .before .before in
+    twice (right (named .before .before)) (named .before .may-be-named .ensures) (named .if3 .taken) (c .before .known-before .ensures) (c .if5 .taken)
+
+array-write-used : tie.Need-array-write-used Inv-loop μ-loop
+unfolding rowIn
+array-write-used c = slot-within (right (c .before .before .before .before)) (c .before .slot .ensures)
 
 style-after-requires : tie.Need-style-after-requires Inv-loop μ-loop
 unfolding rowIn
-style-after-requires c κs =
-    let right = c .before in
-    let read = right .before .before .before in
-    right-style (read .before .before .before .before .before .args .area .now) (rowIn (read .row-at .result))
-    (sym (right .is-right .ensures) ∙ not-false (right .is-right .result) (c .if2 .left))
+style-after-requires c κs = style-here (right (c .before .before))
 
 add-i : tie.Need-add-i Inv-loop μ-loop
 add-i c = search needs
@@ -62,24 +95,24 @@ loop-less : tie.Need-loop-less Inv-loop μ-loop
 loop-less c = search needs
 
 loop-again : tie.Need-loop-again Inv-loop μ-loop
-unfolding rowIn act
+unfolding rowIn
 loop-again c =
-    let right = c .before .before in
-    let read = right .before .before .before in
-    let at = read .before .before .loop in
-    let a = read .before .before .before .before .before .args in
-    let r = rowIn (read .row-at .result) in
-    let yes-right = sym (right .is-right .ensures) ∙ not-false (right .is-right .result) (c .before .if2 .left) in (
-      search needs,
-      rows-next (a .area .now) (a .cells .now) (a .n) (at .i) (at .least) (at .inv .1) (read .before .loop-test .taken) (read .row-at .ensures) (right .before .if1 .left)
-          (right .is-right .ensures) (c .before .if2 .left) (c .style-after .result) (c .style-after .ensures (r .step .default) (right-stands (a .area .now) r yes-right)),
-    )
+    let told = c .before .before in
+    let here = right (told .before) in
+    ⊎-elim
+    (λ w. ⊎-elim
+    (λ v. on-unknown here (c .style-after .ensures) (w .1 .ensures) (w .3) (v .1 .ensures) (v .2 .left))
+    (λ v. on-new here (c .style-after .ensures) (w .1 .ensures) (w .3) (v .left))
+    (w .2 .came))
+    (λ w. on-unnamed here (told .may-be-named .ensures) (c .style-after .ensures) (w .0 .left) (w .1))
+    (c .before .if3 .came)
 
-returns-3 : tie.Need-returns-3 Inv-loop μ-loop
-returns-3 c =
+returns-4 : tie.Need-returns-4 Inv-loop μ-loop
+unfolding asked
+returns-4 c =
     let a = c .before .before .before .before .args in
     let at = c .before .loop in
-    rows-end (a .area .now) (a .cells .now) (a .n) (at .i) (at .least) (at .inv .1) (c .loop-test .left)
+    all-asked (a .area .now) (a .cells .now) (a .n) (at .used) (at .least) (at .i) (at .inv) (c .loop-test .left)
 
 pub rows-right-spec : {M : Type 1} → statement M
 rows-right-spec =
@@ -92,8 +125,14 @@ rows-right-spec =
     returns
     is-right-requires
     returns-2
+    may-be-named-requires
+    slot-requires
+    array-read-if4
+    known-before-requires
+    returns-3
+    array-write-used
     style-after-requires
     add-i
     loop-less
     loop-again
-    returns-3)
+    returns-4)

@@ -3,10 +3,10 @@
 use mathlib.Core.Path.{ap, _∙_}
 use borrow.Author.Needs.{needs}
 use Rattle.rules.specs.Parameters.{act}
-use Rattle.rules.specs.ParameterQuestions.{stepName, usesRight}
+use Rattle.rules.specs.ParameterQuestions.{usesRight}
 use Rattle.builder.specs.Params.{stepOf}
 use Rattle.prepared.specs.Rows.{rowIn}
-use Rattle.prepared.proofs.LawsRows.{right-stands, right-name, right-uses, right-key}
+use Rattle.prepared.proofs.LawsRows.{right-stands, right-uses, right-name, right-key}
 use Rattle.prepared.proofs.row.Row.is_right.Statement.{statement}
 use Rattle.prepared.proofs.row.Row.is_right.Tie as tie
 
@@ -24,35 +24,35 @@ returns c =
 step-requires : tie.Need-step-requires
 step-requires c κs = search needs
 
-name-inside-requires : tie.Need-name-inside-requires
-name-inside-requires c κs = search needs
-
-returns-2 : tie.Need-returns-2
-unfolding rowIn
-returns-2 c =
-    let named = c .before in
-    let stepped = named .before in
-    let stood = stepped .before .before in
-    let a = stood .before .before .args in
-    let r = rowIn (a .self) in
-    right-name (a .area .now) r (stood .may-stand .ensures (r .step .default)) (stepped .before .if1 .left)
-    (named .name-inside .ensures ∙ ap (stepName (a .area .now)) (stepped .step .ensures)) (c .if2 .taken)
-
 uses-right-requires : tie.Need-uses-right-requires
 uses-right-requires c κs = search needs
 
-returns-3 : tie.Need-returns-3
+returns-2 : tie.Need-returns-2
 unfolding rowIn stepOf
-returns-3 c =
+returns-2 c =
     let used = c .before in
-    let named = used .before .before in
-    let stepped = named .before in
+    let stepped = used .before in
     let stood = stepped .before .before in
     let a = stood .before .before .args in
     let r = rowIn (a .self) in
     right-uses (a .area .now) r (stood .may-stand .ensures (r .step .default)) (stepped .before .if1 .left)
-    (named .name-inside .ensures ∙ ap (stepName (a .area .now)) (stepped .step .ensures)) (used .before .if2 .left)
-    (used .uses-right .ensures ∙ ap (λ s. usesRight (a .area .now) (act s) (s .name) (s .default)) (stepped .step .ensures)) (c .if3 .taken)
+    (used .uses-right .ensures ∙ ap (λ s. usesRight (a .area .now) (act s) (s .name) (s .default)) (stepped .step .ensures)) (c .if2 .taken)
+
+name-right-requires : tie.Need-name-right-requires
+name-right-requires c κs = search needs
+
+returns-3 : tie.Need-returns-3
+unfolding rowIn stepOf
+returns-3 c =
+    let asked = c .before .before .before in
+    let used = asked .before in
+    let stepped = used .before in
+    let stood = stepped .before .before in
+    let a = stood .before .before .args in
+    let r = rowIn (a .self) in
+    right-name (a .area .now) r (stood .may-stand .ensures (r .step .default)) (stepped .before .if1 .left)
+    (used .uses-right .ensures ∙ ap (λ s. usesRight (a .area .now) (act s) (s .name) (s .default)) (stepped .step .ensures)) (asked .if2 .left)
+    (c .before .if3 .taken) (c .name-right .ensures)
 
 key-of-requires : tie.Need-key-of-requires
 key-of-requires c κs = search needs
@@ -60,16 +60,16 @@ key-of-requires c κs = search needs
 returns-4 : tie.Need-returns-4
 unfolding rowIn stepOf
 returns-4 c =
-    let used = c .before .before .before in
-    let named = used .before .before in
-    let stepped = named .before in
+    let above = c .before .before in
+    let asked = above .before .before in
+    let used = asked .before in
+    let stepped = used .before in
     let stood = stepped .before .before in
     let a = stood .before .before .args in
     let r = rowIn (a .self) in
     right-key (a .area .now) r (stood .may-stand .ensures (r .step .default)) (stepped .before .if1 .left)
-    (named .name-inside .ensures ∙ ap (stepName (a .area .now)) (stepped .step .ensures)) (used .before .if2 .left)
-    (used .uses-right .ensures ∙ ap (λ s. usesRight (a .area .now) (act s) (s .name) (s .default)) (stepped .step .ensures)) (c .before .before .if3 .left)
-    (c .before .key-of .ensures)
+    (used .uses-right .ensures ∙ ap (λ s. usesRight (a .area .now) (act s) (s .name) (s .default)) (stepped .step .ensures)) (asked .if2 .left)
+    (above .if3 .left) (c .before .key-of .ensures)
 
 pub is-right-spec : {M : Type 1} → statement M
 is-right-spec =
@@ -78,9 +78,9 @@ is-right-spec =
     may-stand-requires
     returns
     step-requires
-    name-inside-requires
-    returns-2
     uses-right-requires
+    returns-2
+    name-right-requires
     returns-3
     key-of-requires
     returns-4)
