@@ -15,15 +15,14 @@ const SIZES: [usize; 3] = [4, 16, 64];
 const LISTS: [List; 2] = [List::Cold, List::Prepared];
 
 // What a row pays for where ours is slower. With a list that is built for each call a form of 01 explains all of it. With a prepared list it is
-// the first demand, no check left to the caller: each cell of list and call is asked at each call, and names are told apart and found by
-// their bytes, where the Rust has hashes that it trusts.
+// the first demand, no check left to the caller: each cell of list and call is asked at each call, where the Rust trusts what it is given; and
+// with names out of order the plain search.
 fn reason(shape: Shape, list: List) -> &'static str {
     match (list, shape) {
         (List::Cold, Shape::Shuffled) => "the builder by value, the plain search (forms of 01)",
         (List::Cold, _) => "the builder by value (a form of 01)",
-        (_, Shape::Positional) => "asking each cell",
         (_, Shape::Shuffled) => "the plain search (a form of 01), asking each cell",
-        (_, _) => "asking each cell, names by their bytes",
+        (_, _) => "asking each cell",
     }
 }
 

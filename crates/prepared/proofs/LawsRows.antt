@@ -259,4 +259,3 @@ known-bytes area cells bytes i qs eb = ap (λ n. known qs (bytesAt area n)) (nam
 
 pub may-be-named-cells : (cells : List ℕ) (i : ℕ) → mayBeNamed (rowAt cells i .step .code) (rowAt cells i .style) ≡ mayBeNamed (getD cells (2 + 6 * i) 0) (getD cells (2 + 6 * i + 1) 0)
 may-be-named-cells cells i = ap (λ (r : Row). mayBeNamed (r .step .code) (r .style)) (rowAt-cells cells i)
-
