@@ -1,5 +1,5 @@
 // Values (01, cells, texts and records): one enum with a case for each kind, converted to and from two cells. A value is well
-// formed if reading its two cells gives one; kinds are tested by number here and nowhere else.
+// formed if reading its two cells gives one. Kinds are tested by number here, and elsewhere only whether a key that is well formed is a text.
 use crate::text::ReadText;
 use crate::text::Text;
 use crate::text::read_text;

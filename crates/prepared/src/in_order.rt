@@ -116,6 +116,7 @@ fn named_after(
     requires { ⌜ Keyed (now spec) (now list) (row + 1) × (row < 64) × (pair + 2 ≤ length (now cells)) × (wellFormedKey (now area) (pairAt (now cells) pair) ≡ true) ⌝ }
     ensures { λ r. ⌜ (r ≡ true → NamedAfter (now (spec .entry)) (now (list .entry)) (now (cells .entry)) (now (area .entry)) pair row) ⌝ }
 {
+    // A key can be a whole number too.
     if cells[pair] != 6 {
         return false;
     }
