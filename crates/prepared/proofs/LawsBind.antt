@@ -19,7 +19,7 @@ use Rattle.rules.specs.Collection.{Outcome}
 use Rattle.rules.specs.Passed.{positionalFirst, namesApart, nameInside}
 use Rattle.rules.proofs.LawsListing.{and-left, and-right, and-both}
 use Rattle.cells.proofs.LawsListed.{length-listed, getD-listed}
-use Rattle.builder.specs.Params.{styleFor, kindFor, parameterOf, parametersIn}
+use Rattle.builder.specs.Params.{styleFor, kindFor, parameterOf}
 use Rattle.builder.specs.Build.{IsList}
 use Rattle.builder.specs.declared.spec.ParametersSpec.{ParametersSpec}
 use Rattle.builder.proofs.LawsCodes.{code-3, code-4}

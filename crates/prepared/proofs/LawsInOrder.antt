@@ -8,26 +8,26 @@ use mathlib.Core.Option.{some}
 use Prim.Native.Nat.{ℕ, zero, suc, _+_, _≤_}
 use native.Mathlib.Nat.{zero-add}
 use native.Mathlib.Omega.{arith}
-use borrow.Author.Tests.{lt-ltb, le-ltb}
+use borrow.Author.Tests.{le-ltb}
 use lib.Dec.{ltb}
 use lib.ListN.{length, take, drop, getD, drop-of-length-le, take-append-drop, length-append}
-use lib.Seq.{append-snoc, drop-cons, length-take-le}
+use lib.Seq.{append-snoc, length-take-le}
 use Rattle.rules.specs.Listing.{all, any, tally, anyFrom, mapFrom}
 use Rattle.rules.specs.Cells.{writeEach}
 use Rattle.rules.specs.Text.{among, differ}
 use Rattle.rules.specs.Value.{Value, valueCells, noValue}
-use Rattle.rules.specs.Answer.{fine, refuse, _then_, name, partOf, specArea}
+use Rattle.rules.specs.Answer.{fine, _then_, name}
 use Rattle.rules.specs.CallRecord.{Named, Call, Entry, Key, word, number, wordOf, words, entriesOf, positionalsOf, namedOf}
-use Rattle.rules.specs.Parameters.{Parameter, isRequired, positional, nameable, positionalCount, hasArgs, hasKwargs}
+use Rattle.rules.specs.Parameters.{Parameter, positional, nameable, positionalCount, hasArgs, hasKwargs}
 use Rattle.rules.specs.Lookup.{names, known}
 use Rattle.rules.specs.Passed.{positionalFirst, namesApart}
-use Rattle.rules.specs.Placement.{Slot, taken, isTaken, isDefaulted, fromP, partner, otherwise, takenOr, slotOf, place, starRemainder, namedRemainder, countsOf}
+use Rattle.rules.specs.Placement.{Slot, taken, fromP, partner, otherwise, takenOr, slotOf, place, starRemainder, namedRemainder, countsOf}
 use Rattle.rules.specs.Accessors.{isWord}
 use Rattle.rules.specs.Board.{slotCells, written}
-use Rattle.rules.specs.Binding.{textsOf, namesFilled, missing, askRepeats, askEntries, askRequired, askStarRemainder, askNamedRemainder, askPlaced, askBinding}
+use Rattle.rules.specs.Binding.{textsOf, namesFilled, askRepeats, askEntries, askStarRemainder, askNamedRemainder, askPlaced, askBinding}
 use Rattle.rules.proofs.LawsListing.{and-left, and-right, and-both, and-no-right, or-left, or-right, or-neither, not-yes, not-of, all-imp, keep-all, any-append, map-append}
 use Rattle.rules.proofs.LawsAnswer.{then-fine}
-use Rattle.rules.proofs.LawsPlacement.{name-apart, known-snoc}
+use Rattle.rules.proofs.LawsPlacement.{known-snoc}
 use Rattle.rules.proofs.LawsFound.{none-after, among-unknown}
 use Rattle.rules.proofs.LawsShort.{tally-most, slots-short, taken-cells, all-taken, none-defaulted, required-taken}
 use Rattle.rules.proofs.LawsBinding.{repeats-slots, repeats-fine, asEntry, entries-fine, binding-parts}

@@ -1,5 +1,5 @@
 -- Laws of loading a prepared list, in this order: which rows are counted, by code and style; counts and first indices after one more row;
--- a column after one more store; the columns as a list; columns that hold the rows. Assumes nothing.
+-- a column after one more store; the columns as a list. Assumes nothing.
 use mathlib.Core.Path.{_≡_, refl, sym, ap, _∙_}
 use mathlib.Core.Bool.{Bool, true, false, cond, _||_, false≢true}
 use mathlib.Core.List.{List}
@@ -15,7 +15,7 @@ use Rattle.rules.specs.Value.{Value, noValue}
 use Rattle.rules.specs.Listing.{tally, firstFrom}
 use Rattle.rules.specs.Parameters.{Parameter, posOrNamed, comesBefore, actOf, takesPosition, positional as rules-positional, positionalOnly, isArgs, isKwargs, positionalOnlyCount, positionalCount, argsIndex, kwargsIndex}
 use Rattle.cells.specs.Listed.{listed}
-use Rattle.cells.proofs.LawsListed.{orFirst, length-listed, getD-listed, listed-more, listed-same, tally-snoc, first-snoc}
+use Rattle.cells.proofs.LawsListed.{orFirst, length-listed, listed-more, listed-same, tally-snoc, first-snoc}
 use Rattle.builder.specs.Params.{styleFor, kindFor, parameterOf, parameterAt, parametersIn}
 use Rattle.builder.specs.Spec.{indexOf}
 use Rattle.builder.specs.Build.{IsList}
@@ -27,7 +27,7 @@ use Rattle.builder.proofs.LawsCodes.{code-3, code-4, code-0, plain-code, plain-
 use Rattle.builder.proofs.LawsParams.{plain-any}
 use Rattle.prepared.specs.Prepared.{Row, parameterOfRow, listIn}
 use Rattle.prepared.specs.Rows.{rowAt, paramAt}
-use Rattle.prepared.specs.Load.{byPosition, onlyByPosition, restOfNames, orAt, IndicesOf, IsLoaded}
+use Rattle.prepared.specs.Load.{byPosition, onlyByPosition, restOfNames, orAt, IndicesOf}
 use Rattle.prepared.proofs.LawsRows.{cellsAt, rowAt-cells, list-listed}
 
 -- ---- by code and style
@@ -323,31 +323,3 @@ module _ (cells : List ℕ) (p : Parameters) (l : Loaded cells (p .len) (p .code
     where
       same : listed (paramAt area cells) 0 (p .len) ≡ listIn area cells
       same = rw e (sym (list-listed area cells))
-
--- columns that hold the rows, before any are loaded
-abbrev cellsOf : List ℕ → ℕ → List ℕ
-cellsOf cells k = listed (λ j. getD cells (2 + 6 * j + k) 0) 0 64
-
-abbrev pub columnsOf : List ℕ → Parameters
-columnsOf cells =
-    record {
-      codes = listed (λ j. getD cells (2 + 6 * j) 0) 0 64;
-      styles = cellsOf cells 1;
-      names = cellsOf cells 2;
-      «default_kinds» = cellsOf cells 3;
-      «default_payloads» = cellsOf cells 4;
-      len = getD cells 0 0;
-    }
-
-column-of : (value : ℕ → ℕ) (i : ℕ) → i ≤ 64 → Column value i (listed value 0 64)
-column-of value i h = record { wide = length-listed value 0 64; held = λ j u. getD-listed value 0 64 j 0 (omega arith) ∙ ap value (zero-add j) }
-
-pub columns-loaded : (cells : List ℕ) → getD cells 0 0 ≤ 64 → IsLoaded cells (columnsOf cells)
-columns-loaded cells few =
-    record {
-      len = refl;
-      list = λ area d x.
-          loaded-list cells (columnsOf cells)
-          (record { code = column-of _ _ few; style = column-of _ _ few; name = column-of _ _ few; kind = column-of _ _ few; payload = column-of _ _ few })
-          area d refl few x;
-    }

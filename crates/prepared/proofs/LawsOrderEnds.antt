@@ -7,17 +7,17 @@ use mathlib.Core.List.{List, [], _∷_, _++_, map}
 use Prim.Native.Nat.{ℕ, _+_, _≤_}
 use native.Mathlib.Decide.{decLe}
 use native.Mathlib.Omega.{arith}
-use lib.ListN.{length, drop, getD, length-append}
+use lib.ListN.{length, drop, length-append}
 use Rattle.rules.specs.Cells.{writeEach, over}
-use Rattle.rules.specs.Text.{Text, differ}
+use Rattle.rules.specs.Text.{differ}
 use Rattle.rules.specs.Value.{Value, noValue, valueWidth, valueCells, readValue}
 use Rattle.rules.specs.Answer.{fine, refuse, none}
-use Rattle.rules.specs.CallRecord.{Head, Call, Named, Entry, Key, word, headWidth, pairWidth, readPair, readCall, callIn, namedIn, keyIn, entryIn, words, entriesOf, positionalsOf, namedOf}
+use Rattle.rules.specs.CallRecord.{Head, Call, Named, Entry, Key, word, headWidth, readCall, callIn, namedIn, keyIn, entryIn, words, entriesOf, positionalsOf, namedOf}
 use Rattle.rules.specs.CallQuestions.{kindsRight, keysDiffer, entriesDiffer, namesDiffer, askForm, askCall}
 use Rattle.rules.specs.Parameters.{Parameter}
 use Rattle.rules.specs.Passed.{positionalFirst, namesApart}
 use Rattle.rules.specs.Placement as rules
-use Rattle.rules.specs.Board.{written, boardAfter}
+use Rattle.rules.specs.Board.{boardAfter}
 use Rattle.rules.specs.Binding.{textsOf, askBinding}
 use Rattle.rules.specs.Collection.{callOf}
 use Rattle.rules.proofs.LawsListing.{map-map, map-append}
@@ -30,7 +30,7 @@ use Rattle.cells.proofs.LawsOut.{stored-first}
 use Rattle.cells.proofs.LawsWrite.{valueCells-two}
 use Rattle.answers.specs.Answer.{countsOf}
 use Rattle.answers.specs.declared.answer.Collected.{Collected}
-use Rattle.answers.specs.declared.answer.Collected.the-variants.{Accepted, Record}
+use Rattle.answers.specs.declared.answer.Collected.the-variants.{Record}
 use Rattle.calls.specs.Head.{itemsFrom, namedFrom, entriesFrom}
 use Rattle.calls.specs.Runs.{valuesAt, pairsAt}
 use Rattle.calls.specs.Keys.{askKeys}

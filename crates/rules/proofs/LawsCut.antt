@@ -1,26 +1,25 @@
 -- Laws of a cut's call record: it passes 9 to 13, and the call that it describes has P and N back.
 -- Assumes nothing.
 use mathlib.Core.Path.{_≡_, refl, sym, ap, ap₂, subst, _∙_}
-use mathlib.Core.Bool.{Bool, true, false, cond, not, _&&_, _||_, false≢true, true≢false}
+use mathlib.Core.Bool.{Bool, true, false, not, _&&_, _||_}
 use mathlib.Core.List.{List, [], _∷_, _++_, map}
-use Prim.Native.Nat.{ℕ, zero, suc, _≤_}
+use Prim.Native.Nat.{ℕ, _≤_}
 use native.Mathlib.Omega.{arith}
-use borrow.Author.Tests.{le-leb, eq-eqb, eqb-true}
+use borrow.Author.Tests.{le-leb, eq-eqb}
 use lib.Dec.{leb, eqb}
 use lib.ListN.{length, take, drop, length-take, length-drop, take-append-drop}
 use Rattle.rules.specs.Listing.{all}
-use Rattle.rules.specs.Text.{Text, sameBytes, among, differ, textIn, isText}
+use Rattle.rules.specs.Text.{Text, sameBytes, among, differ, isText}
 use Rattle.rules.specs.Value.{Value, callText, wellFormedArgument, wellFormedName, wellFormedKey}
-use Rattle.rules.specs.Answer.{Answer, fine, _then_, ask}
-use Rattle.rules.specs.CallRecord.{Pair, CallRecord, Head, Named, Entry, Key, word, Star, iterable, noStar, Double, dictionary, noDouble, Call, readHead, callLength, readCall, encodeCall, namedIn, keyIn, entryIn, starOf, doubleOf, itemsOf, entriesOf, words, callIn, positionalsOf, namedOf}
+use Rattle.rules.specs.Answer.{fine, _then_}
+use Rattle.rules.specs.CallRecord.{Pair, CallRecord, Named, word, callLength, encodeCall, namedIn, keyIn, entryIn, starOf, doubleOf, itemsOf, entriesOf, words, callIn, positionalsOf, namedOf}
 use Rattle.rules.specs.Parameters.{Parameter}
 use Rattle.rules.specs.CallQuestions.{lengthsRight, kindRight, kindsRight, wellFormedPair, wellFormedEntry, partsWellFormed, sameKey, keysDiffer, entriesDiffer, namesDiffer, askForm, askCall}
 use Rattle.rules.specs.Binding.{textsOf, starPasses, doublePasses, askRepeats, askEntries, askPlaced, askBinding}
 use Rattle.rules.specs.Demand3.{Cut, restKind, cutRecord, wholeRecord}
-use Rattle.rules.proofs.LawsListing.{and-left, and-right, and-both, all-take, all-drop, all-imp, map-take, map-drop, map-append, map-map, map-where}
+use Rattle.rules.proofs.LawsListing.{and-left, and-right, and-both, all-take, all-drop, all-imp, map-append, map-map, map-where}
 use Rattle.rules.proofs.LawsText.{differ-front, differ-back, isText-weaker}
 use Rattle.rules.proofs.LawsRecord.{headOf, readHead-encodeCall, length-encodeCall, readCall-encodeCall}
-use Rattle.rules.proofs.LawsAnswer.{ask-fine}
 use Rattle.rules.proofs.LawsBinding.{asEntry, words-asEntry, repeats, Ended, repeats-ended, binding-parts}
 
 -- ---- 9 to 13 of an encoded call

@@ -2,7 +2,7 @@
 -- says of the parameter at an index, which slots P fills, what one more named value changes, and the questions from an index on.
 -- Assumes nothing.
 use mathlib.Core.Path.{_≡_, refl, sym, ap, ap₂, subst, _∙_}
-use mathlib.Core.Bool.{Bool, true, false, cond, not, _&&_, _||_, false≢true, true≢false}
+use mathlib.Core.Bool.{Bool, true, false, cond, not, _&&_, _||_, true≢false}
 use mathlib.Core.List.{List, [], _∷_, _++_, map}
 use mathlib.Core.Option.{Option, none, some}
 use Prim.Native.Nat.{ℕ, zero, suc, _+_, min, _<_, suc-le-suc}
@@ -10,8 +10,8 @@ use native.Mathlib.Nat.{add-zero, zero-add, le-of-suc-le-suc, not-suc-le-zero}
 use native.Mathlib.Omega.{arith}
 use borrow.Author.Tests.{ltb-true, ltb-false, lt-ltb, le-ltb, eq-eqb, ne-eqb}
 use lib.Dec.{eqb, ltb, leb·suc-suc}
-use lib.ListN.{length, drop, getD}
-use Rattle.rules.specs.Listing.{all, any, tally, keep, anyFrom, mapFrom}
+use lib.ListN.{length, getD}
+use Rattle.rules.specs.Listing.{all, any, tally, keep, anyFrom}
 use Rattle.rules.specs.Text.{sameBytes, among}
 use Rattle.rules.specs.Value.{Value}
 use Rattle.rules.specs.CallRecord.{Named}

@@ -1,26 +1,23 @@
 -- Laws of the short path: as many values as there are parameters, all of them positional, and nothing else given. Nothing is refused, and the
 -- slots are the values.
 -- Assumes nothing.
-use mathlib.Core.Path.{_≡_, refl, sym, ap, ap₂, subst, _∙_}
-use mathlib.Core.Bool.{Bool, true, false, cond, not, _&&_, _||_, false≢true, true≢false}
+use mathlib.Core.Path.{_≡_, refl, sym, ap, ap₂, _∙_}
+use mathlib.Core.Bool.{Bool, true, false, cond, _&&_, false≢true}
 use mathlib.Core.List.{List, [], _∷_, _++_, map, append-nil}
-use mathlib.Core.Option.{none}
-use Prim.Native.Nat.{ℕ, zero, suc, _+_, _≤_, _<_, suc-le-suc}
+use Prim.Native.Nat.{ℕ, suc, _+_, _≤_}
 use native.Mathlib.Omega.{arith}
 use borrow.Author.Tests.{lt-ltb}
-use lib.Dec.{ltb}
 use lib.ListN.{length, drop, getD, drop-of-length-le}
-use lib.Seq.{drop-cons, take-length}
+use lib.Seq.{drop-cons}
 use Rattle.rules.specs.Listing.{all, tally, mapFrom}
 use Rattle.rules.specs.Cells.{writeEach}
 use Rattle.rules.specs.Value.{Value, valueCells, noValue}
-use Rattle.rules.specs.Answer.{Answer, fine, refuse, _then_, ask, name, partOf, specArea}
-use Rattle.rules.specs.CallRecord.{Named, Call, Star, noStar, Double, noDouble, positionalsOf, namedOf}
+use Rattle.rules.specs.Answer.{fine, refuse, _then_, name, partOf, specArea}
+use Rattle.rules.specs.CallRecord.{Named, Call, noStar, noDouble, positionalsOf, namedOf}
 use Rattle.rules.specs.Parameters.{Parameter, isRequired, positional, positionalCount, hasArgs, hasKwargs}
-use Rattle.rules.specs.Placement.{Slot, taken, isTaken, isDefaulted, isUnfilled, fromP, slotOf, place, starRemainder, namedRemainder, Counts, countsOf}
-use Rattle.rules.specs.Board.{slotCells, slotValue, namedCells, written}
+use Rattle.rules.specs.Placement.{Slot, taken, isTaken, isDefaulted, fromP, slotOf, place, starRemainder, namedRemainder, countsOf}
+use Rattle.rules.specs.Board.{slotCells, written}
 use Rattle.rules.specs.Binding.{namedBy, missing, askRepeats, askRequired, askStarRemainder, askNamedRemainder, askPlaced, askBinding}
-use Rattle.rules.proofs.LawsListing.{and-both}
 
 -- ---- every parameter is positional
 

@@ -1,5 +1,5 @@
 -- `calls::ask_keys` meets its contract: a refusal of 9 to 11 is handed on, and what passed them is asked 12. Assumes nothing.
-use mathlib.Core.Path.{_≡_, sym, ap, _∙_}
+use mathlib.Core.Path.{sym, ap, _∙_}
 use borrow.Author.Needs.{needs}
 use Rattle.cells.specs.Answer.{answerOf}
 use Rattle.calls.specs.Keys.{askKeys}

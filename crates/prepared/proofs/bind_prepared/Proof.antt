@@ -3,8 +3,6 @@
 use mathlib.Core.Path.{_≡_, sym, ap, _∙_}
 use mathlib.Core.Bool.{true}
 use borrow.Author.Tests.{not-true, not-false}
-use Rattle.rules.specs.Answer.{fine}
-use Rattle.rules.specs.CallQuestions.{askForm}
 use Rattle.rules.specs.Collection.{callOf}
 use Rattle.cells.specs.Answer.{answerOf}
 use Rattle.calls.specs.Head.{headOf}

@@ -1,15 +1,12 @@
 -- `prepared::collect_loaded` meets its contract: a refusal of 12 is handed on; a call that passes it is ended against the rows in columns, which
 -- are the list that the cells spell. Assumes nothing.
 use mathlib.Core.Path.{_≡_, sym, ap, subst, _∙_}
-use mathlib.Core.List.{List}
-use Prim.Native.Nat.{ℕ}
 use lib.ListN.{getD}
 use Rattle.rules.specs.Answer.{fine}
 use Rattle.cells.specs.Answer.{answerOf}
 use Rattle.cells.specs.Listed.{listed}
 use Rattle.calls.specs.Keys.{askKeys}
 use Rattle.builder.specs.Build.{IsList}
-use Rattle.builder.specs.declared.params.Parameters.{Parameters}
 use Rattle.builder.specs.declared.spec.ParametersSpec.{ParametersSpec}
 use Rattle.collector.proofs.LawsEnds.{bound-keys}
 use borrow.Author.Needs.{needs}
