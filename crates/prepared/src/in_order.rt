@@ -1,5 +1,5 @@
 // Calls whose arguments stand in the list's order, one for each parameter: the values of P for the first ones, and the pairs of N, each named
-// after its own parameter, for the others. Most calls are such. Of 12 to 24 only 14 can refuse them, and their slots are the values as they
+// after its own parameter, for the others. Of 12 to 24 only 14 can refuse them, and their slots are the values as they
 // stand, so that no name has to be looked for and no table is needed.
 use crate::row::FRONT;
 use crate::row::KEY;
@@ -34,7 +34,7 @@ ghost use Rattle.prepared.specs.Prepared.{listIn};
 ghost use Rattle.prepared.specs.Rows.{Keyed};
 ghost use Rattle.prepared.specs.InOrder.{InOrder, OrderReady, positionalTo, TurnReady, NamedAfter, InOrderEnds};
 
-// Is each argument in its parameter's place? Entries are asked before written names: what leaves the order mostly does so at the end.
+// Is each argument in its parameter's place? Entries are looked at before written names, and both from the last one back; any order would do.
 pub(crate) fn in_order(
     list: &[u64],
     spec: &[u8],
@@ -81,7 +81,7 @@ fn takes_positions(list: &[u64], count: usize) -> bool
 }
 
 // Are the `count` pairs from a cell on named after the rows from number `row` on, each after its own? They are looked at from the last one
-// back: a call that leaves the order mostly does so at its end.
+// back.
 fn named_in_turn(
     list: &[u64],
     spec: &[u8],
