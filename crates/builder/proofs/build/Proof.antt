@@ -7,24 +7,12 @@ use Rattle.builder.proofs.LawsBuild.{refused-list, ask-1, ask-2, ask-3,
 use Rattle.builder.proofs.build.Statement.{statement}
 use Rattle.builder.proofs.build.Tie as tie
 
-whole-steps-requires : tie.Need-whole-steps-requires
-whole-steps-requires c κs = search needs
-
-refused-requires : tie.Need-refused-requires
-refused-requires c κs = search needs
-
 returns : tie.Need-returns
 returns c =
     let a = c .before .before .before .before .before .args in
     refused-list (a .cells .now) (a .area .now) 1 (c .refused .result) (c .refused .ensures)
     (ask-1 (a .cells .now) (a .area .now)
     (sym (c .before .before .whole-steps .ensures) ∙ not-true _ (c .before .if1 .taken)))
-
-codes-known-requires : tie.Need-codes-known-requires
-codes-known-requires c κs = search needs
-
-refused-requires-2 : tie.Need-refused-requires-2
-refused-requires-2 c κs = search needs
 
 returns-2 : tie.Need-returns-2
 returns-2 c =
@@ -33,12 +21,6 @@ returns-2 c =
     (ask-2 (a .cells .now) (a .area .now)
     (sym (c .before .before .before .before .whole-steps .ensures) ∙ not-false _ (c .before .before .before .if1 .left))
     (sym (c .before .before .codes-known .ensures) ∙ not-true _ (c .before .if2 .taken)))
-
-names-inside-requires : tie.Need-names-inside-requires
-names-inside-requires c κs = search needs
-
-refused-requires-3 : tie.Need-refused-requires-3
-refused-requires-3 c κs = search needs
 
 returns-3 : tie.Need-returns-3
 returns-3 c =
@@ -49,12 +31,6 @@ returns-3 c =
     (sym (c .before .before .before .before .codes-known .ensures) ∙ not-false _ (c .before .before .before .if2 .left))
     (sym (c .before .before .names-inside .ensures) ∙ not-true _ (c .before .if3 .taken)))
 
-defaults-right-requires : tie.Need-defaults-right-requires
-defaults-right-requires c κs = search needs
-
-refused-requires-4 : tie.Need-refused-requires-4
-refused-requires-4 c κs = search needs
-
 returns-4 : tie.Need-returns-4
 returns-4 c =
     let a = c .before .before .before .before .before .before .before .before .before .before .before .args in
@@ -64,21 +40,6 @@ returns-4 c =
     (sym (c .before .before .before .before .before .before .codes-known .ensures) ∙ not-false _ (c .before .before .before .before .before .if2 .left))
     (sym (c .before .before .before .before .names-inside .ensures) ∙ not-false _ (c .before .before .before .if3 .left))
     (sym (c .before .before .defaults-right .ensures) ∙ not-true _ (c .before .if4 .taken)))
-
-take-steps-requires : tie.Need-take-steps-requires
-take-steps-requires c κs = search needs
-
-enum-known-answer : tie.Need-enum-known-answer
-enum-known-answer c = search needs
-
-refused-requires-5 : tie.Need-refused-requires-5
-refused-requires-5 c κs = search needs
-
-enum-told : tie.Need-enum-told
-enum-told c = search needs
-
-finish-requires : tie.Need-finish-requires
-finish-requires c κs = search needs
 
 returns-5 : tie.Need-returns-5
 returns-5 c =
@@ -102,25 +63,4 @@ returns-6 c =
     (c .before .before .before .take-steps .result) (c .before .before .before .take-steps .ensures) (c .finish .result) (c .before .enum-told .given .1) (c .finish .ensures)
 
 pub build-spec : {M : Type 1} → statement M
-build-spec =
-    tie.close
-    (tie.spec
-    whole-steps-requires
-    refused-requires
-    returns
-    codes-known-requires
-    refused-requires-2
-    returns-2
-    names-inside-requires
-    refused-requires-3
-    returns-3
-    defaults-right-requires
-    refused-requires-4
-    returns-4
-    take-steps-requires
-    enum-known-answer
-    refused-requires-5
-    enum-told
-    finish-requires
-    returns-5
-    returns-6)
+build-spec = tie.close (tie.spec (λ c κs. search needs) (λ c κs. search needs) returns (λ c κs. search needs) (λ c κs. search needs) returns-2 (λ c κs. search needs) (λ c κs. search needs) returns-3 (λ c κs. search needs) (λ c κs. search needs) returns-4 (λ c κs. search needs) (λ c. search needs) (λ c κs. search needs) (λ c. search needs) (λ c κs. search needs) returns-5 returns-6)

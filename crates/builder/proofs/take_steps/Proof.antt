@@ -16,12 +16,6 @@ Inv-loop cells area m stepped₀ i₀ stepped i = (i ≤ m) × (stepped .answer 
 abbrev μ-loop : tie.MeasureT-loop
 μ-loop cells area m stepped₀ i₀ stepped i = m - i
 
-step-count-requires : tie.Need-step-count-requires Inv-loop μ-loop
-step-count-requires c κs = search needs
-
-new-requires : tie.Need-new-requires Inv-loop μ-loop
-new-requires c κs = search needs
-
 loop-holds : tie.Need-loop-holds Inv-loop μ-loop
 loop-holds c =
     let a = c .before .before .before .before .args in (
@@ -33,15 +27,6 @@ loop-holds c =
 step-at-requires : tie.Need-step-at-requires Inv-loop μ-loop
 step-at-requires c κs = rw (← c .before .before .before .step-count .ensures) (c .loop-test .taken)
 
-step-requires : tie.Need-step-requires Inv-loop μ-loop
-step-requires c κs = search needs
-
-enum-told : tie.Need-enum-told Inv-loop μ-loop
-enum-told c = search needs
-
-enum-told-2 : tie.Need-enum-told-2 Inv-loop μ-loop
-enum-told-2 c = search needs
-
 returns : tie.Need-returns Inv-loop μ-loop
 returns c =
     let a = c .before .before .before .before .before .before .before .before .before .before .args in
@@ -50,12 +35,6 @@ returns c =
     let step = c .before .before .step in
     left-stop (a .cells .now) (a .area .now) (c .before .before .before .before .before .before .before .step-count .result) (at .stepped .builder) (at .i) (at .inv .2) (c .before .before .before .before .loop-test .taken)
     (stepOf (took .result)) (took .ensures) (step .result) (step .ensures) _ (c .enum-told2 .given .1)
-
-add-i : tie.Need-add-i Inv-loop μ-loop
-add-i c = search needs
-
-loop-less : tie.Need-loop-less Inv-loop μ-loop
-loop-less c = search needs
 
 loop-again : tie.Need-loop-again Inv-loop μ-loop
 loop-again c =
@@ -77,20 +56,4 @@ returns-2 c =
     left-end (a .cells .now) (a .area .now) (c .before .before .before .step-count .result) (at .stepped) (at .i) (at .inv .1) (at .inv .2) (c .loop-test .left)
 
 pub take-steps-spec : {M : Type 1} → statement M
-take-steps-spec =
-    tie.close
-    (tie.spec
-    Inv-loop
-    μ-loop
-    step-count-requires
-    new-requires
-    loop-holds
-    step-at-requires
-    step-requires
-    enum-told
-    enum-told-2
-    returns
-    add-i
-    loop-less
-    loop-again
-    returns-2)
+take-steps-spec = tie.close (tie.spec Inv-loop μ-loop (λ c κs. search needs) (λ c κs. search needs) loop-holds step-at-requires (λ c κs. search needs) (λ c. search needs) (λ c. search needs) returns (λ c. search needs) (λ c. search needs) loop-again returns-2)

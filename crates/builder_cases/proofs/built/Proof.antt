@@ -21,29 +21,5 @@ slice-aggregate-build c =
     let l : length (s .args .«record» .cells) ≡ 272 = length-held (s .args .«record» .cells) (s .good .1 .0 .1 .1 .0 .1 .0 .1) in
     sym (length-take-le (s .args .«record» .len) (s .args .«record» .cells) (omega (arith, c .before .if1 .taken)))
 
-build-requires : tie.Need-build-requires
-build-requires c κs = search needs
-
-returns : tie.Need-returns
-returns c = search needs
-
-slice-aggregate-build-2 : tie.Need-slice-aggregate-build-2
-slice-aggregate-build-2 c = search needs
-
-build-requires-2 : tie.Need-build-requires-2
-build-requires-2 c κs = search needs
-
-returns-2 : tie.Need-returns-2
-returns-2 c = search needs
-
 pub built-spec : {M : Type 1} → statement M
-built-spec =
-    tie.close
-    (tie.spec
-    array-share-prefix-cells
-    slice-aggregate-build
-    build-requires
-    returns
-    slice-aggregate-build-2
-    build-requires-2
-    returns-2)
+built-spec = tie.close (tie.spec array-share-prefix-cells slice-aggregate-build (λ c κs. search needs) (λ c. search needs) (λ c. search needs) (λ c κs. search needs) (λ c. search needs))

@@ -26,20 +26,8 @@ thirteen c =
     let n = c .before in
     names-by _ _ (n .before .read-head .ensures) _ ∙ rw (sym (n .named-from .ensures)) (sym (c .names-differ .ensures))
 
-ask-keys-requires : tie.Need-ask-keys-requires
-ask-keys-requires c κs = search needs
-
-enum-told : tie.Need-enum-told
-enum-told c = search needs
-
 returns : tie.Need-returns
 returns c = rw (call-in-turn, sym (c .before .before .ask-keys .ensures), c .enum-told .given .1)
-
-enum-told-2 : tie.Need-enum-told-2
-enum-told-2 c = search needs
-
-read-head-requires : tie.Need-read-head-requires
-read-head-requires c κs = search needs
 
 named-from-requires : tie.Need-named-from-requires
 named-from-requires c κs = lengths-few _ _ (c .read-head .ensures) 64 (form-lengths 64 _ _ (form-passed (c .before)))
@@ -59,15 +47,4 @@ returns-3 c =
     rw (call-in-turn, keys-passed (c .before .before .before .before), thirteen (c .before) ∙ not-false _ (c .if1 .left))
 
 pub ask-call-spec : {M : Type 1} → statement M
-ask-call-spec =
-    tie.close
-    (tie.spec
-    ask-keys-requires
-    enum-told
-    returns
-    enum-told-2
-    read-head-requires
-    named-from-requires
-    names-differ-requires
-    returns-2
-    returns-3)
+ask-call-spec = tie.close (tie.spec (λ c κs. search needs) (λ c. search needs) returns (λ c. search needs) (λ c κs. search needs) named-from-requires names-differ-requires returns-2 returns-3)

@@ -16,9 +16,6 @@ twelve c =
     let e = c .before in
     entries-by _ _ (e .before .read-head .ensures) _ ∙ rw (sym (e .entries-from .ensures)) (sym (c .keys-differ .ensures))
 
-read-head-requires : tie.Need-read-head-requires
-read-head-requires c κs = search needs
-
 entries-from-requires : tie.Need-entries-from-requires
 entries-from-requires c κs = lengths-few _ _ (c .read-head .ensures) 64 (form-lengths 64 _ _ (c .before .before .before .pre))
 
@@ -37,6 +34,4 @@ unfolding askKeys
 returns-2 c = rw (c .before .before .before .before .before .before .pre, twelve (c .before) ∙ not-false _ (c .if1 .left))
 
 pub ask-entries-spec : {M : Type 1} → statement M
-ask-entries-spec =
-    tie.close
-    (tie.spec read-head-requires entries-from-requires keys-differ-requires returns returns-2)
+ask-entries-spec = tie.close (tie.spec (λ c κs. search needs) entries-from-requires keys-differ-requires returns returns-2)

@@ -7,15 +7,9 @@ use Rattle.rules.specs.CallQuestions.{askForm}
 use Rattle.calls.proofs.ask_form.Statement.{statement}
 use Rattle.calls.proofs.ask_form.Tie as tie
 
-lengths-right-requires : tie.Need-lengths-right-requires
-lengths-right-requires c κs = search needs
-
 returns : tie.Need-returns
 unfolding askForm
 returns c = rw (sym (c .before .lengths-right .ensures) ∙ not-true _ (c .if1 .taken))
-
-kinds-right-requires : tie.Need-kinds-right-requires
-kinds-right-requires c κs = search needs
 
 returns-2 : tie.Need-returns-2
 unfolding askForm
@@ -54,13 +48,4 @@ returns-4 c =
     )
 
 pub ask-form-spec : {M : Type 1} → statement M
-ask-form-spec =
-    tie.close
-    (tie.spec
-    lengths-right-requires
-    returns
-    kinds-right-requires
-    returns-2
-    parts-formed-requires
-    returns-3
-    returns-4)
+ask-form-spec = tie.close (tie.spec (λ c κs. search needs) returns (λ c κs. search needs) returns-2 parts-formed-requires returns-3 returns-4)

@@ -11,45 +11,5 @@ Inv-loop numbers at₀ sort cases tally₀ i₀ at tally i = i ≤ cases
 abbrev μ-loop : tie.MeasureT-loop
 μ-loop numbers at₀ sort cases tally₀ i₀ at tally i = cases - i
 
-take-requires : tie.Need-take-requires Inv-loop μ-loop
-take-requires c κs = search needs
-
-loop-holds : tie.Need-loop-holds Inv-loop μ-loop
-loop-holds c = search needs
-
-add-t11 : tie.Need-add-t11 Inv-loop μ-loop
-add-t11 c = search needs
-
-play-requires : tie.Need-play-requires Inv-loop μ-loop
-play-requires c κs = search needs
-
-add-requires : tie.Need-add-requires Inv-loop μ-loop
-add-requires c κs = search needs
-
-add-i : tie.Need-add-i Inv-loop μ-loop
-add-i c = search needs
-
-loop-less : tie.Need-loop-less Inv-loop μ-loop
-loop-less c = search needs
-
-loop-again : tie.Need-loop-again Inv-loop μ-loop
-loop-again c = search needs
-
-returns : tie.Need-returns Inv-loop μ-loop
-returns c = search needs
-
 pub section-spec : {M : Type 1} → statement M
-section-spec =
-    tie.close
-    (tie.spec
-    Inv-loop
-    μ-loop
-    take-requires
-    loop-holds
-    add-t11
-    play-requires
-    add-requires
-    add-i
-    loop-less
-    loop-again
-    returns)
+section-spec = tie.close (tie.spec Inv-loop μ-loop (λ c κs. search needs) (λ c. search needs) (λ c. search needs) (λ c κs. search needs) (λ c κs. search needs) (λ c. search needs) (λ c. search needs) (λ c. search needs) (λ c. search needs))

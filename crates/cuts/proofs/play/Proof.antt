@@ -36,36 +36,21 @@ cut-room c =
     let kept : length (c .before .write-cut2 .last .1 .1 .1 .0) ≡ 390 = c .before .write-cut2 .kept .1 .1 .1 .0 in
     omega (arith, kept, few-cells (a .positionals .now) (a .named .now) (cutOf (a .cut)) (fitting (c .before .before .before .before .before .before)))
 
-sizes-right-requires : tie.Need-sizes-right-requires
-sizes-right-requires c κs = search needs
-
 returns : tie.Need-returns
 returns c =
     let a = c .before .before .before .before .before .before .before .before .args in
     play-outside (a .spec-cells .now) (a .spec .now) (a .positionals .now) (a .named .now) (a .area .now) (cutOf (a .cut)) (a .board .now)
     (sym (c .before .sizes-right .ensures) ∙ not-true _ (c .if1 .taken))
 
-slice-aggregate-write-cut : tie.Need-slice-aggregate-write-cut
-slice-aggregate-write-cut c = search needs
-
 write-cut-requires : tie.Need-write-cut-requires
 write-cut-requires c κs =
     let a = c .before .before .before .before .before .before .before .before .before .args in
     (whole-fits (a .positionals .now) (a .named .now) (cutOf (a .cut)) (fitting (c .before)), omega arith)
 
-slice-aggregate-write-cut-2 : tie.Need-slice-aggregate-write-cut-2
-slice-aggregate-write-cut-2 c = search needs
-
 write-cut-requires-2 : tie.Need-write-cut-requires-2
 write-cut-requires-2 c κs =
     let a = c .before .before .before .before .before .before .before .before .before .before .before .before .args in
     (fitting (c .before .before .before .before), omega arith)
-
-add-len : tie.Need-add-len
-add-len c = search needs
-
-add-len-2 : tie.Need-add-len-2
-add-len-2 c = search needs
 
 array-share-prefix-whole-cells : tie.Need-array-share-prefix-whole-cells
 array-share-prefix-whole-cells c = whole-room c
@@ -78,12 +63,6 @@ array-share-prefix-cut-cells c = cut-room (c .before)
 
 slice-aggregate-try-cut-2 : tie.Need-slice-aggregate-try-cut-2
 slice-aggregate-try-cut-2 c = sym (length-take-le _ _ (cut-room (c .before .before)))
-
-try-cut-requires : tie.Need-try-cut-requires
-try-cut-requires c κs = search needs
-
-same-length : tie.Need-same-length
-same-length c = search needs
 
 returns-2 : tie.Need-returns-2
 returns-2 c =
@@ -102,21 +81,4 @@ returns-2 c =
     (tried .try-cut .ensures)
 
 pub play-spec : {M : Type 1} → statement M
-play-spec =
-    tie.close
-    (tie.spec
-    sizes-right-requires
-    returns
-    slice-aggregate-write-cut
-    write-cut-requires
-    slice-aggregate-write-cut-2
-    write-cut-requires-2
-    add-len
-    add-len-2
-    array-share-prefix-whole-cells
-    slice-aggregate-try-cut
-    array-share-prefix-cut-cells
-    slice-aggregate-try-cut-2
-    try-cut-requires
-    same-length
-    returns-2)
+play-spec = tie.close (tie.spec (λ c κs. search needs) returns (λ c. search needs) write-cut-requires (λ c. search needs) write-cut-requires-2 (λ c. search needs) (λ c. search needs) array-share-prefix-whole-cells slice-aggregate-try-cut array-share-prefix-cut-cells slice-aggregate-try-cut-2 (λ c κs. search needs) (λ c. search needs) returns-2)

@@ -10,9 +10,6 @@ use Rattle.cuts.proofs.LawsPlay.{outside-ended, collectedIn, fillingOf}
 use Rattle.cuts.proofs.try_cut.Statement.{statement}
 use Rattle.cuts.proofs.try_cut.Tie as tie
 
-records-pass-requires : tie.Need-records-pass-requires
-records-pass-requires c κs = search needs
-
 returns : tie.Need-returns
 returns c =
     record {
@@ -22,15 +19,6 @@ returns c =
       collected = λ e f z. outside-ended e f z;
       filling = λ e f z. outside-ended e f z;
     }
-
-can-fill-with-args-requires : tie.Need-can-fill-with-args-requires
-can-fill-with-args-requires c κs = search needs
-
-collect-requires : tie.Need-collect-requires
-collect-requires c κs = search needs
-
-same-length : tie.Need-same-length
-same-length c = search needs
 
 returns-2 : tie.Need-returns-2
 returns-2 c =
@@ -47,12 +35,4 @@ returns-2 c =
     }
 
 pub try-cut-spec : {M : Type 1} → statement M
-try-cut-spec =
-    tie.close
-    (tie.spec
-    records-pass-requires
-    returns
-    can-fill-with-args-requires
-    collect-requires
-    same-length
-    returns-2)
+try-cut-spec = tie.close (tie.spec (λ c κs. search needs) returns (λ c κs. search needs) (λ c κs. search needs) (λ c. search needs) returns-2)

@@ -6,18 +6,6 @@ use borrow.Author.Needs.{needs}
 use Rattle.liuwdom.proofs.liuwdom_bind.Statement.{statement}
 use Rattle.liuwdom.proofs.liuwdom_bind.Tie as tie
 
-bind-requires : tie.Need-bind-requires
-bind-requires c κs = search needs
-
-bound-requires : tie.Need-bound-requires
-bound-requires c κs = search needs
-
-write-requires : tie.Need-write-requires
-write-requires c κs = search needs
-
-same-length : tie.Need-same-length
-same-length c = search needs
-
 returns : tie.Need-returns
 returns c =
     let did = c .before .before .before .before .before .bind .ensures in
@@ -25,4 +13,4 @@ returns c =
 
 pub liuwdom-bind-spec : {M : Type 1} → statement M
 liuwdom-bind-spec =
-    tie.close (tie.spec bind-requires bound-requires write-requires same-length returns)
+    tie.close (tie.spec (λ c κs. search needs) (λ c κs. search needs) (λ c κs. search needs) (λ c. search needs) returns)

@@ -5,21 +5,9 @@ use borrow.Author.Needs.{needs}
 use Rattle.liuwdom.proofs.liuwdom_bind_prepared.Statement.{statement}
 use Rattle.liuwdom.proofs.liuwdom_bind_prepared.Tie as tie
 
-bind-prepared-requires : tie.Need-bind-prepared-requires
-bind-prepared-requires c κs = search needs
-
-prepared-bound-requires : tie.Need-prepared-bound-requires
-prepared-bound-requires c κs = search needs
-
-write-requires : tie.Need-write-requires
-write-requires c κs = search needs
-
-same-length : tie.Need-same-length
-same-length c = search needs
-
 returns : tie.Need-returns
 returns c = bound-says (c .before .before .before .before .before .bind-prepared .ensures) (c .before .before .prepared-bound .ensures) (c .write .ensures)
 
 pub liuwdom-bind-prepared-spec : {M : Type 1} → statement M
 liuwdom-bind-prepared-spec =
-    tie.close (tie.spec bind-prepared-requires prepared-bound-requires write-requires same-length returns)
+    tie.close (tie.spec (λ c κs. search needs) (λ c κs. search needs) (λ c κs. search needs) (λ c. search needs) returns)

@@ -6,18 +6,9 @@ use borrow.Author.Needs.{needs}
 use Rattle.liuwdom.proofs.liuwdom_can_fill.Statement.{statement}
 use Rattle.liuwdom.proofs.liuwdom_can_fill.Tie as tie
 
-can-fill-with-args-requires : tie.Need-can-fill-with-args-requires
-can-fill-with-args-requires c κs = search needs
-
-can-fill-requires : tie.Need-can-fill-requires
-can-fill-requires c κs = search needs
-
-write-requires : tie.Need-write-requires
-write-requires c κs = search needs
-
 returns : tie.Need-returns
 returns c = says fillingAnswer (c .before .before .before .can-fill-with-args .ensures) (c .before .before .can-fill .ensures) (c .write .ensures)
 
 pub liuwdom-can-fill-spec : {M : Type 1} → statement M
 liuwdom-can-fill-spec =
-    tie.close (tie.spec can-fill-with-args-requires can-fill-requires write-requires returns)
+    tie.close (tie.spec (λ c κs. search needs) (λ c κs. search needs) (λ c κs. search needs) returns)

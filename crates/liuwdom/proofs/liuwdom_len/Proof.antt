@@ -6,17 +6,8 @@ use borrow.Author.Needs.{needs}
 use Rattle.liuwdom.proofs.liuwdom_len.Statement.{statement}
 use Rattle.liuwdom.proofs.liuwdom_len.Tie as tie
 
-len-requires : tie.Need-len-requires
-len-requires c κs = search needs
-
-accessed-requires : tie.Need-accessed-requires
-accessed-requires c κs = search needs
-
-write-requires : tie.Need-write-requires
-write-requires c κs = search needs
-
 returns : tie.Need-returns
 returns c = says accessAnswer (c .before .before .before .len .ensures) (c .before .before .accessed .ensures) (c .write .ensures)
 
 pub liuwdom-len-spec : {M : Type 1} → statement M
-liuwdom-len-spec = tie.close (tie.spec len-requires accessed-requires write-requires returns)
+liuwdom-len-spec = tie.close (tie.spec (λ c κs. search needs) (λ c κs. search needs) (λ c κs. search needs) returns)

@@ -6,18 +6,9 @@ use borrow.Author.Needs.{needs}
 use Rattle.liuwdom.proofs.liuwdom_no_named_args.Statement.{statement}
 use Rattle.liuwdom.proofs.liuwdom_no_named_args.Tie as tie
 
-no-named-args-requires : tie.Need-no-named-args-requires
-no-named-args-requires c κs = search needs
-
-accessed-requires : tie.Need-accessed-requires
-accessed-requires c κs = search needs
-
-write-requires : tie.Need-write-requires
-write-requires c κs = search needs
-
 returns : tie.Need-returns
 returns c = says accessAnswer (c .before .before .before .no-named-args .ensures) (c .before .before .accessed .ensures) (c .write .ensures)
 
 pub liuwdom-no-named-args-spec : {M : Type 1} → statement M
 liuwdom-no-named-args-spec =
-    tie.close (tie.spec no-named-args-requires accessed-requires write-requires returns)
+    tie.close (tie.spec (λ c κs. search needs) (λ c κs. search needs) (λ c κs. search needs) returns)

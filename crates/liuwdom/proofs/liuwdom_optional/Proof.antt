@@ -5,21 +5,9 @@ use borrow.Author.Needs.{needs}
 use Rattle.liuwdom.proofs.liuwdom_optional.Statement.{statement}
 use Rattle.liuwdom.proofs.liuwdom_optional.Tie as tie
 
-optional-requires : tie.Need-optional-requires
-optional-requires c κs = search needs
-
-accessed-requires : tie.Need-accessed-requires
-accessed-requires c κs = search needs
-
-write-requires : tie.Need-write-requires
-write-requires c κs = search needs
-
-same-length : tie.Need-same-length
-same-length c = search needs
-
 returns : tie.Need-returns
 returns c = accessing-says (c .before .before .before .before .before .optional .ensures) (c .before .before .accessed .ensures) (c .write .ensures)
 
 pub liuwdom-optional-spec : {M : Type 1} → statement M
 liuwdom-optional-spec =
-    tie.close (tie.spec optional-requires accessed-requires write-requires same-length returns)
+    tie.close (tie.spec (λ c κs. search needs) (λ c κs. search needs) (λ c κs. search needs) (λ c. search needs) returns)

@@ -6,18 +6,6 @@ use borrow.Author.Needs.{needs}
 use Rattle.liuwdom.proofs.liuwdom_prepare.Statement.{statement}
 use Rattle.liuwdom.proofs.liuwdom_prepare.Tie as tie
 
-prepare-requires : tie.Need-prepare-requires
-prepare-requires c κs = search needs
-
-prepared-requires : tie.Need-prepared-requires
-prepared-requires c κs = search needs
-
-write-requires : tie.Need-write-requires
-write-requires c κs = search needs
-
-same-length : tie.Need-same-length
-same-length c = search needs
-
 returns : tie.Need-returns
 unfolding preparingAnswer preparingLeft
 returns c =
@@ -26,4 +14,4 @@ returns c =
 
 pub liuwdom-prepare-spec : {M : Type 1} → statement M
 liuwdom-prepare-spec =
-    tie.close (tie.spec prepare-requires prepared-requires write-requires same-length returns)
+    tie.close (tie.spec (λ c κs. search needs) (λ c κs. search needs) (λ c κs. search needs) (λ c. search needs) returns)

@@ -5,15 +5,6 @@ use borrow.Author.Needs.{needs}
 use Rattle.liuwdom.proofs.liuwdom_read_next.Statement.{statement}
 use Rattle.liuwdom.proofs.liuwdom_read_next.Tie as tie
 
-read-next-requires : tie.Need-read-next-requires
-read-next-requires c κs = search needs
-
-read-requires : tie.Need-read-requires
-read-requires c κs = search needs
-
-write-requires : tie.Need-write-requires
-write-requires c κs = search needs
-
 returns : tie.Need-returns
 returns c =
     let did = c .before .before .before .read-next .ensures in
@@ -21,4 +12,4 @@ returns c =
 
 pub liuwdom-read-next-spec : {M : Type 1} → statement M
 liuwdom-read-next-spec =
-    tie.close (tie.spec read-next-requires read-requires write-requires returns)
+    tie.close (tie.spec (λ c κs. search needs) (λ c κs. search needs) (λ c κs. search needs) returns)

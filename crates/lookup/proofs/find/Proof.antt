@@ -5,16 +5,10 @@ use Rattle.lookup.proofs.LawsFind.{find-whole}
 use Rattle.lookup.proofs.find.Statement.{statement}
 use Rattle.lookup.proofs.find.Tie as tie
 
-held-requires : tie.Need-held-requires
-held-requires c κs = search needs
-
-search-requires : tie.Need-search-requires
-search-requires c κs = search needs
-
 returns : tie.Need-returns
 returns c =
     let a = c .before .before .before .before .args in
     c .search .ensures ∙ find-whole (a .area .now) (a .codes .now) (a .styles .now) (a .names .now) (a .len) (a .name .now) (c .before .held .result) (c .before .held .ensures)
 
 pub find-spec : {M : Type 1} → statement M
-find-spec = tie.close (tie.spec held-requires search-requires returns)
+find-spec = tie.close (tie.spec (λ c κs. search needs) (λ c κs. search needs) returns)

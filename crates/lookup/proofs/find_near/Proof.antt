@@ -6,18 +6,12 @@ use Rattle.lookup.specs.Lookup.{findIn, OneFits}
 use Rattle.lookup.proofs.find_near.Statement.{statement}
 use Rattle.lookup.proofs.find_near.Tie as tie
 
-fits-requires : tie.Need-fits-requires
-fits-requires c κs = search needs
-
 returns : tie.Need-returns
 returns c =
     let tried = c .before in
     let start = tried .before .before .before in
     let fitted = tried .fits2 .ensures (c .if1 .taken) in
     sym (start .pre (start .args .near) (fitted .0) (fitted .1))
-
-part-requires : tie.Need-part-requires
-part-requires c κs = search needs
 
 find-from-requires : tie.Need-find-from-requires
 find-from-requires c κs =
@@ -32,4 +26,4 @@ returns-2 c =
 
 pub find-near-spec : {M : Type 1} → statement M
 find-near-spec =
-    tie.close (tie.spec fits-requires returns part-requires find-from-requires returns-2)
+    tie.close (tie.spec (λ c κs. search needs) returns (λ c κs. search needs) find-from-requires returns-2)

@@ -10,32 +10,11 @@ use Rattle.lookup.proofs.LawsFind.{fits-short}
 use Rattle.lookup.proofs.fits.Statement.{statement}
 use Rattle.lookup.proofs.fits.Tie as tie
 
-held-requires : tie.Need-held-requires
-held-requires c κs = search needs
-
 returns : tie.Need-returns
 returns c e = absurd (false≢true e)
 
-element-copy-out-nameable : tie.Need-element-copy-out-nameable
-element-copy-out-nameable c = search needs
-
-element-copy-out-nameable-2 : tie.Need-element-copy-out-nameable-2
-element-copy-out-nameable-2 c = search needs
-
-nameable-requires : tie.Need-nameable-requires
-nameable-requires c κs = search needs
-
 returns-2 : tie.Need-returns-2
 returns-2 c e = absurd (false≢true e)
-
-mul-short-same : tie.Need-mul-short-same
-mul-short-same c = search needs
-
-element-copy-out-short-same : tie.Need-element-copy-out-short-same
-element-copy-out-short-same c = search needs
-
-short-same-requires : tie.Need-short-same-requires
-short-same-requires c κs = search needs
 
 returns-3 : tie.Need-returns-3
 unfolding fitsAt
@@ -49,16 +28,4 @@ returns-3 c e =
     )
 
 pub fits-spec : {M : Type 1} → statement M
-fits-spec =
-    tie.close
-    (tie.spec
-    held-requires
-    returns
-    element-copy-out-nameable
-    element-copy-out-nameable-2
-    nameable-requires
-    returns-2
-    mul-short-same
-    element-copy-out-short-same
-    short-same-requires
-    returns-3)
+fits-spec = tie.close (tie.spec (λ c κs. search needs) returns (λ c. search needs) (λ c. search needs) (λ c κs. search needs) returns-2 (λ c. search needs) (λ c. search needs) (λ c κs. search needs) returns-3)

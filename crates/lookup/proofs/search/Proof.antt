@@ -47,17 +47,8 @@ missed c e =
 candidates-holds : tie.Need-candidates-holds Inv-loop μ-loop Inv-candidates μ-candidates
 candidates-holds c = (search needs, refl)
 
-add-i : tie.Need-add-i Inv-loop μ-loop Inv-candidates μ-candidates
-add-i c = search needs
-
-mul-size : tie.Need-mul-size Inv-loop μ-loop Inv-candidates μ-candidates
-mul-size c = search needs
-
 element-copy-out-size : tie.Need-element-copy-out-size Inv-loop μ-loop Inv-candidates μ-candidates
 element-copy-out-size c = omega (arith, c .before .before .before .before .pre .1)
-
-candidates-less : tie.Need-candidates-less Inv-loop μ-loop Inv-candidates μ-candidates
-candidates-less c = search needs
 
 candidates-again : tie.Need-candidates-again Inv-loop μ-loop Inv-candidates μ-candidates
 candidates-again c =
@@ -71,38 +62,20 @@ element-copy-out-nameable c = omega (arith, c .before .before .before .before .b
 element-copy-out-nameable-2 : tie.Need-element-copy-out-nameable-2 Inv-loop μ-loop Inv-candidates μ-candidates
 element-copy-out-nameable-2 c = omega (arith, c .before .before .before .before .before .before .before .pre .1)
 
-nameable-requires : tie.Need-nameable-requires Inv-loop μ-loop Inv-candidates μ-candidates
-nameable-requires c κs = search needs
-
-candidates-less-2 : tie.Need-candidates-less-2 Inv-loop μ-loop Inv-candidates μ-candidates
-candidates-less-2 c = search needs
-
 candidates-again-2 : tie.Need-candidates-again-2 Inv-loop μ-loop Inv-candidates μ-candidates
 candidates-again-2 c =
     let a = c .before .before .before .before .before .before .before .before .before .before .args in
     let i = c .before .before .before .before .before .before .before .candidates .i in
     (search needs, missed (c .before .before .before .before .before .before) (fits-style (a .area .now) (a .name .now) (getD (a .codes .now) i 0) (getD (a .styles .now) i 0) (getD (a .names .now) i 0) (sym (c .before .nameable .ensures) ∙ not-true _ (c .if2 .taken))))
 
-mul-start : tie.Need-mul-start Inv-loop μ-loop Inv-candidates μ-candidates
-mul-start c = search needs
-
 element-copy-out-start : tie.Need-element-copy-out-start Inv-loop μ-loop Inv-candidates μ-candidates
 element-copy-out-start c = omega (arith, c .before .before .before .before .before .before .before .before .before .before .pre .1)
-
-candidates-less-3 : tie.Need-candidates-less-3 Inv-loop μ-loop Inv-candidates μ-candidates
-candidates-less-3 c = search needs
 
 candidates-again-3 : tie.Need-candidates-again-3 Inv-loop μ-loop Inv-candidates μ-candidates
 candidates-again-3 c =
     let a = c .before .before .before .before .before .before .before .before .before .before .before .before .args in
     let i = c .before .before .before .before .before .before .before .before .before .candidates .i in
     (search needs, missed (c .before .before .before .before .before .before .before .before) (fits-start (a .area .now) (a .name .now) (getD (a .codes .now) i 0) (getD (a .styles .now) i 0) (getD (a .names .now) i 0) (c .if3 .taken)))
-
-add-if4 : tie.Need-add-if4 Inv-loop μ-loop Inv-candidates μ-candidates
-add-if4 c = search needs
-
-candidates-less-4 : tie.Need-candidates-less-4 Inv-loop μ-loop Inv-candidates μ-candidates
-candidates-less-4 c = search needs
 
 candidates-again-4 : tie.Need-candidates-again-4 Inv-loop μ-loop Inv-candidates μ-candidates
 candidates-again-4 c =
@@ -113,17 +86,8 @@ candidates-again-4 c =
 loop-holds : tie.Need-loop-holds Inv-loop μ-loop Inv-candidates μ-candidates
 loop-holds c = (search needs, refl)
 
-shared-slice-read-if5 : tie.Need-shared-slice-read-if5 Inv-loop μ-loop Inv-candidates μ-candidates
-shared-slice-read-if5 c = search needs
-
-add-if5 : tie.Need-add-if5 Inv-loop μ-loop Inv-candidates μ-candidates
-add-if5 c = search needs
-
 shared-slice-read-if5-2 : tie.Need-shared-slice-read-if5-2 Inv-loop μ-loop Inv-candidates μ-candidates
 shared-slice-read-if5-2 c = omega (arith, c .before .before .before .before .if4 .left, c .before .before .loop-test .taken)
-
-candidates-less-5 : tie.Need-candidates-less-5 Inv-loop μ-loop Inv-candidates μ-candidates
-candidates-less-5 c = search needs
 
 candidates-again-5 : tie.Need-candidates-again-5 Inv-loop μ-loop Inv-candidates μ-candidates
 candidates-again-5 c =
@@ -134,12 +98,6 @@ candidates-again-5 c =
           ∙ c .before .before .before .before .loop .inv .1
           ∙ bytes-differ (a .area .now) (a .name .now) (getD (a .names .now) i 0 / 256) (getD (a .names .now) i 0 % 256) (c .before .before .before .before .loop .j) (c .before .before .before .before .before .if4 .left) (c .before .before .before .before .before .before .before .before .before .before .before .before .if1 .left) (c .before .before .before .loop-test .taken) (c .if5 .taken)),
     )
-
-add-j : tie.Need-add-j Inv-loop μ-loop Inv-candidates μ-candidates
-add-j c = search needs
-
-loop-less : tie.Need-loop-less Inv-loop μ-loop Inv-candidates μ-candidates
-loop-less c = search needs
 
 loop-again : tie.Need-loop-again Inv-loop μ-loop Inv-candidates μ-candidates
 loop-again c =
@@ -165,39 +123,4 @@ returns-2 c =
     sym (c .before .candidates .inv .1 ∙ firstAt-end (fitsAt (a .area .now) (a .codes .now) (a .styles .now) (a .names .now) (a .name .now)) (c .before .candidates .i) (a .to) (c .candidates-test .left))
 
 pub search-spec : {M : Type 1} → statement M
-search-spec =
-    tie.close
-    (tie.spec
-    Inv-loop
-    μ-loop
-    Inv-candidates
-    μ-candidates
-    candidates-holds
-    add-i
-    mul-size
-    element-copy-out-size
-    candidates-less
-    candidates-again
-    element-copy-out-nameable
-    element-copy-out-nameable-2
-    nameable-requires
-    candidates-less-2
-    candidates-again-2
-    mul-start
-    element-copy-out-start
-    candidates-less-3
-    candidates-again-3
-    add-if4
-    candidates-less-4
-    candidates-again-4
-    loop-holds
-    shared-slice-read-if5
-    add-if5
-    shared-slice-read-if5-2
-    candidates-less-5
-    candidates-again-5
-    add-j
-    loop-less
-    loop-again
-    returns
-    returns-2)
+search-spec = tie.close (tie.spec Inv-loop μ-loop Inv-candidates μ-candidates candidates-holds (λ c. search needs) (λ c. search needs) element-copy-out-size (λ c. search needs) candidates-again element-copy-out-nameable element-copy-out-nameable-2 (λ c κs. search needs) (λ c. search needs) candidates-again-2 (λ c. search needs) element-copy-out-start (λ c. search needs) candidates-again-3 (λ c. search needs) (λ c. search needs) candidates-again-4 loop-holds (λ c. search needs) (λ c. search needs) shared-slice-read-if5-2 (λ c. search needs) candidates-again-5 (λ c. search needs) (λ c. search needs) loop-again returns returns-2)

@@ -18,21 +18,12 @@ use Rattle.prepared.proofs.bind_prepared.Tie as tie
 abbrev startOf : tie.After-is-prepared → tie.Start
 startOf asked = asked .before .before .before .before .before .before
 
-is-prepared-requires : tie.Need-is-prepared-requires
-is-prepared-requires c κs = search needs
-
 returns : tie.Need-returns
 returns c = unprepared-ends _ _ _ _ _ (sym (c .before .is-prepared .ensures) ∙ not-true (c .before .is-prepared .result) (c .if1 .taken))
 
 -- the cells are a prepared list
 is-one : (c : tie.Else1) → let a = startOf (c .before) .args in isPrepared (a .spec .now) (a .prepared .now) ≡ true
 is-one c = sym (c .before .is-prepared .ensures) ∙ not-false (c .before .is-prepared .result) (c .if1 .left)
-
-ask-form-requires : tie.Need-ask-form-requires
-ask-form-requires c κs = search needs
-
-enum-known-asked : tie.Need-enum-known-asked
-enum-known-asked c = search needs
 
 returns-2 : tie.Need-returns-2
 returns-2 c =
@@ -41,15 +32,6 @@ returns-2 c =
     let a = startOf (asked .before .before) .args in
     prepared-ends (a .spec .now) (a .prepared .now) (is-one (asked .before)) (a .cells .now) (a .area .now) (a .board .now) (a .board .now) _
     (form-ends (listIn (a .spec .now) (a .prepared .now)) (a .cells .now) (a .area .now) (a .board .now) (told .asked .given .0 .0) (sym (asked .ask-form .ensures) ∙ ap answerOf (told .asked .given .1)))
-
-enum-told : tie.Need-enum-told
-enum-told c = search needs
-
-cell-requires : tie.Need-cell-requires
-cell-requires c κs = search needs
-
-read-head-requires : tie.Need-read-head-requires
-read-head-requires c κs = search needs
 
 -- and the call has passed 9 to 11
 abbrev beginOf : tie.After-read-head → tie.Else1
@@ -85,9 +67,6 @@ collect-in-order-requires c κs =
       in-order-few (a .spec .now) (a .prepared .now) (a .cells .now) (a .area .now) h (read .before .cell .result) (ready read) (ordered taken),
     )
 
-same-length : tie.Need-same-length
-same-length c = search needs
-
 returns-3 : tie.Need-returns-3
 returns-3 c =
     let ended = c .before .before in
@@ -101,9 +80,6 @@ returns-3 c =
 collect-loaded-requires : tie.Need-collect-loaded-requires
 collect-loaded-requires c κs = ready (c .before .before .before)
 
-same-length-2 : tie.Need-same-length-2
-same-length-2 c = search needs
-
 returns-4 : tie.Need-returns-4
 returns-4 c =
     let ended = c .before .before in
@@ -112,21 +88,4 @@ returns-4 c =
     prepared-ends (a .spec .now) (a .prepared .now) (is-one (beginOf read)) (a .cells .now) (a .area .now) (a .board .now) _ (ended .collect-loaded .result) (ended .collect-loaded .ensures)
 
 pub bind-prepared-spec : {M : Type 1} → statement M
-bind-prepared-spec =
-    tie.close
-    (tie.spec
-    is-prepared-requires
-    returns
-    ask-form-requires
-    enum-known-asked
-    returns-2
-    enum-told
-    cell-requires
-    read-head-requires
-    in-order-requires
-    collect-in-order-requires
-    same-length
-    returns-3
-    collect-loaded-requires
-    same-length-2
-    returns-4)
+bind-prepared-spec = tie.close (tie.spec (λ c κs. search needs) returns (λ c κs. search needs) (λ c. search needs) returns-2 (λ c. search needs) (λ c κs. search needs) (λ c κs. search needs) in-order-requires collect-in-order-requires (λ c. search needs) returns-3 collect-loaded-requires (λ c. search needs) returns-4)

@@ -23,18 +23,12 @@ startOf asked = asked .before .before .before .before .before .before
 ask-entries-requires : tie.Need-ask-entries-requires
 ask-entries-requires c κs = c .before .before .before .before .before .pre .formed
 
-enum-known-asked : tie.Need-enum-known-asked
-enum-known-asked c = search needs
-
 returns : tie.Need-returns
 returns c =
     let told = c .before in
     let asked = told .before .before in
     let a = startOf asked .args in
     bound-keys (listIn (a .spec .now) (a .prepared .now)) (a .cells .now) (a .area .now) (a .board .now) (told .asked .given .0 .0) (sym (asked .ask-entries .ensures) ∙ ap answerOf (told .asked .given .1))
-
-enum-told : tie.Need-enum-told
-enum-told c = search needs
 
 -- all rows are there
 whole : (start : tie.Start) → Whole (start .args .prepared .now)
@@ -77,9 +71,6 @@ collect-open-requires c κs =
       passed = passed told;
     }
 
-same-length : tie.Need-same-length
-same-length c = search needs
-
 returns-2 : tie.Need-returns-2
 returns-2 c =
     let ended = c .before .before in
@@ -87,15 +78,4 @@ returns-2 c =
     rw (is-list loaded .parameters) at (ended .collect-open .ensures)
 
 pub collect-loaded-spec : {M : Type 1} → statement M
-collect-loaded-spec =
-    tie.close
-    (tie.spec
-    ask-entries-requires
-    enum-known-asked
-    returns
-    enum-told
-    indices-in-requires
-    load-requires
-    collect-open-requires
-    same-length
-    returns-2)
+collect-loaded-spec = tie.close (tie.spec ask-entries-requires (λ c. search needs) returns (λ c. search needs) indices-in-requires load-requires collect-open-requires (λ c. search needs) returns-2)

@@ -12,29 +12,17 @@ use Rattle.prepared.proofs.LawsWritten.{preparing-refused, preparing-sh
 use Rattle.prepared.proofs.prepare.Statement.{statement}
 use Rattle.prepared.proofs.prepare.Tie as tie
 
-build-requires : tie.Need-build-requires
-build-requires c κs = search needs
-
-enum-known-listed : tie.Need-enum-known-listed
-enum-known-listed c = search needs
-
 returns : tie.Need-returns
 returns c =
     let a = c .before .before .before .before .before .before .before .args in
     preparing-refused (a .spec-cells .now) (a .spec .now) (a .out .now) (c .before .listed .given .0 .0)
     (sym (c .before .before .before .build .ensures .answer) ∙ ap answerOf (c .before .listed .given .1))
 
-enum-told : tie.Need-enum-told
-enum-told c = search needs
-
 returns-2 : tie.Need-returns-2
 returns-2 c =
     let a = c .before .before .before .before .before .before .before .args in
     preparing-short (a .spec-cells .now) (a .spec .now) (a .out .now)
     (built-fine (a .spec-cells .now) (a .spec .now) (c .before .before .before .build .result) (c .before .before .before .build .ensures) (c .before .enum-told .given .1)) (omega (arith, c .if1 .taken))
-
-cell-requires : tie.Need-cell-requires
-cell-requires c κs = search needs
 
 write-list-requires : tie.Need-write-list-requires
 write-list-requires c κs =
@@ -53,9 +41,6 @@ add-t15 c =
     let told = c .before .before .before .before .before .before .before .before .before in
     omega (arith, told .before .before .build .ensures .fine (told .enum-told .given .1) .room)
 
-same-length : tie.Need-same-length
-same-length c = search needs
-
 returns-3 : tie.Need-returns-3
 returns-3 c =
     let written = c .before .before .before in
@@ -72,17 +57,4 @@ returns-3 c =
     ∙ ap (λ f. over (preparedCells f (parametersIn (a .spec .now) p)) (a .out .now)) (written .before .before .cell .ensures))
 
 pub prepare-spec : {M : Type 1} → statement M
-prepare-spec =
-    tie.close
-    (tie.spec
-    build-requires
-    enum-known-listed
-    returns
-    enum-told
-    returns-2
-    cell-requires
-    write-list-requires
-    mul-t9
-    add-t15
-    same-length
-    returns-3)
+prepare-spec = tie.close (tie.spec (λ c κs. search needs) (λ c. search needs) returns (λ c. search needs) returns-2 (λ c κs. search needs) write-list-requires mul-t9 add-t15 (λ c. search needs) returns-3)

@@ -4,15 +4,6 @@ use Rattle.printer.proofs.LawsAsked.{print-refused, print-short, list-r
 use Rattle.printer.proofs.parameters_str.Statement.{statement}
 use Rattle.printer.proofs.parameters_str.Tie as tie
 
-build-requires : tie.Need-build-requires
-build-requires c κs = search needs
-
-enum-known-answer : tie.Need-enum-known-answer
-enum-known-answer c = search needs
-
-enum-told : tie.Need-enum-told
-enum-told c = search needs
-
 returns : tie.Need-returns
 returns c =
     let built = c .before .before .before in
@@ -32,9 +23,6 @@ returns-2 c =
     let a = built .before .before .before .before .args in
     print-refused (a .cells .now) (a .area .now) (a .out .now) (built .build .result) (built .build .ensures) _ (c .before .answer .given .1)
 
-same-length : tie.Need-same-length
-same-length c = search needs
-
 returns-3 : tie.Need-returns-3
 returns-3 c =
     let written = c .before .before in
@@ -45,14 +33,4 @@ returns-3 c =
     (written .write-list .last .1 .1 .0) (written .write-list .result) (written .write-list .ensures)
 
 pub parameters-str-spec : {M : Type 1} → statement M
-parameters-str-spec =
-    tie.close
-    (tie.spec
-    build-requires
-    enum-known-answer
-    enum-told
-    returns
-    write-list-requires
-    returns-2
-    same-length
-    returns-3)
+parameters-str-spec = tie.close (tie.spec (λ c κs. search needs) (λ c. search needs) (λ c. search needs) returns write-list-requires returns-2 (λ c. search needs) returns-3)

@@ -30,9 +30,6 @@ write-named-requires c κs =
           (half .write-positional .last .1 .1 .1 .0) (half .write-positional .result) (half .write-positional .ensures);
     }
 
-same-length : tie.Need-same-length
-same-length c = search needs
-
 returns : tie.Need-returns
 returns c =
     let rest = c .before .before in
@@ -47,4 +44,4 @@ returns c =
 
 pub write-list-spec : {M : Type 1} → statement M
 write-list-spec =
-    tie.close (tie.spec write-positional-requires write-named-requires same-length returns)
+    tie.close (tie.spec write-positional-requires write-named-requires (λ c. search needs) returns)

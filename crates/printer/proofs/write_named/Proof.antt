@@ -18,15 +18,9 @@ use Rattle.printer.proofs.write_named.Tie as tie
 abbrev Zs : Bool → List (List ℕ)
 Zs kwargs = cond kwargs ((42 ∷ 42 ∷ 107 ∷ 119 ∷ 97 ∷ 114 ∷ 103 ∷ 115 ∷ []) ∷ []) []
 
-is-given-requires : tie.Need-is-given-requires
-is-given-requires c κs = search needs
-
 any-item-requires : tie.Need-any-item-requires
 unfolding comesBefore
 any-item-requires c κs = (c .before .before .before .before .before .pre .count, refl)
-
-is-given-requires-2 : tie.Need-is-given-requires-2
-is-given-requires-2 c κs = search needs
 
 write-star-requires : tie.Need-write-star-requires
 write-star-requires c κs =
@@ -60,9 +54,6 @@ write-items-requires c κs =
     let one = c .before .before .before .write-star in
     (start .pre .count, refl, three-second (starFor args keywords) (itemsOf (under namedOnly) qs) (Zs kwargs) (a .line) (a .out .now) room (one .last .1 .1 .1 .0) (one .result) (one .ensures))
 
-slice-aggregate-write-sign : tie.Need-slice-aggregate-write-sign
-slice-aggregate-write-sign c = search needs
-
 write-sign-requires : tie.Need-write-sign-requires
 write-sign-requires c κs =
     let asked = c .before .before .before .before .before .before .before .before .before .before in
@@ -80,9 +71,6 @@ write-sign-requires c κs =
     let two = c .before .before .before .before .write-items in
     three-third (starFor args keywords) (itemsOf (under namedOnly) qs) (Zs kwargs) (a .line) (a .out .now) room (one .last .1 .1 .1 .0) (one .result) (one .ensures)
     (two .last .1 .1 .1 .1 .0) (two .result) (two .ensures)
-
-same-length : tie.Need-same-length
-same-length c = search needs
 
 returns : tie.Need-returns
 returns c =
@@ -105,15 +93,4 @@ returns c =
     (two .last .1 .1 .1 .1 .0) (two .result) (two .ensures) (three .last .1 .1 .1 .0) (three .result) (three .ensures))
 
 pub write-named-spec : {M : Type 1} → statement M
-write-named-spec =
-    tie.close
-    (tie.spec
-    is-given-requires
-    any-item-requires
-    is-given-requires-2
-    write-star-requires
-    write-items-requires
-    slice-aggregate-write-sign
-    write-sign-requires
-    same-length
-    returns)
+write-named-spec = tie.close (tie.spec (λ c κs. search needs) any-item-requires (λ c κs. search needs) write-star-requires write-items-requires (λ c. search needs) write-sign-requires (λ c. search needs) returns)

@@ -32,9 +32,6 @@ write-items-requires c κs =
     let room = positional-room slash qs (a .line) (a .out .now) (asked .any-item .ensures (a .area .now)) (start .pre .1) in
     (start .pre .0, refl, three-first (itemsOf (under posOnly) qs) (Ys slash) (itemsOf (under posOrNamed) qs) (a .line) (a .out .now) room)
 
-slice-aggregate-write-sign : tie.Need-slice-aggregate-write-sign
-slice-aggregate-write-sign c = search needs
-
 write-sign-requires : tie.Need-write-sign-requires
 write-sign-requires c κs =
     let asked = c .before .before .before .before .before .before in
@@ -63,9 +60,6 @@ write-items-requires-2 c κs =
           (two .last .1 .1 .1 .0) (two .result) (two .ensures),
     )
 
-same-length : tie.Need-same-length
-same-length c = search needs
-
 returns : tie.Need-returns
 returns c =
     let asked = c .before .before .before .before .before .before .before .before .before .before .before .before .before in
@@ -82,13 +76,4 @@ returns c =
     (two .last .1 .1 .1 .0) (two .result) (two .ensures) (three .last .1 .1 .1 .1 .0) (three .result) (three .ensures))
 
 pub write-positional-spec : {M : Type 1} → statement M
-write-positional-spec =
-    tie.close
-    (tie.spec
-    any-item-requires
-    write-items-requires
-    slice-aggregate-write-sign
-    write-sign-requires
-    write-items-requires-2
-    same-length
-    returns)
+write-positional-spec = tie.close (tie.spec any-item-requires write-items-requires (λ c. search needs) write-sign-requires write-items-requires-2 (λ c. search needs) returns)

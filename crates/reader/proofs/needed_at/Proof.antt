@@ -7,13 +7,10 @@ use Rattle.reader.proofs.LawsSlot.{readOr-needed}
 use Rattle.reader.proofs.needed_at.Statement.{statement}
 use Rattle.reader.proofs.needed_at.Tie as tie
 
-read-at-requires : tie.Need-read-at-requires
-read-at-requires c κs = search needs
-
 returns : tie.Need-returns
 returns c =
     let s = c .before .before .args in
     (c .read-at .ensures .0 ∙ readOr-needed (leftAt (s .cells .now) (s .at)), c .read-at .ensures .1)
 
 pub needed-at-spec : {M : Type 1} → statement M
-needed-at-spec = tie.close (tie.spec read-at-requires returns)
+needed-at-spec = tie.close (tie.spec (λ c κs. search needs) returns)

@@ -7,13 +7,10 @@ use Rattle.reader.proofs.LawsSlot.{readOr-optional}
 use Rattle.reader.proofs.optional_at.Statement.{statement}
 use Rattle.reader.proofs.optional_at.Tie as tie
 
-read-at-requires : tie.Need-read-at-requires
-read-at-requires c κs = search needs
-
 returns : tie.Need-returns
 returns c =
     let s = c .before .before .args in
     (c .read-at .ensures .0 ∙ readOr-optional (leftAt (s .cells .now) (s .at)), c .read-at .ensures .1)
 
 pub optional-at-spec : {M : Type 1} → statement M
-optional-at-spec = tie.close (tie.spec read-at-requires returns)
+optional-at-spec = tie.close (tie.spec (λ c κs. search needs) returns)

@@ -14,12 +14,6 @@ read-parameters-requires : tie.Need-read-parameters-requires
 unfolding inputMost
 read-parameters-requires c κs = omega arith
 
-enum-known-line : tie.Need-enum-known-line
-enum-known-line c = search needs
-
-enum-known-p : tie.Need-enum-known-p
-enum-known-p c = search needs
-
 add-read-call : tie.Need-add-read-call
 add-read-call c =
     let p = parameters-are (c .before .before .before .before .read-parameters .ensures) (c .before .before .p .given .1) in
@@ -30,15 +24,6 @@ unfolding inputMost
 read-call-requires c κs =
     let p = parameters-are (c .before .before .before .before .read-parameters .ensures) (c .before .before .p .given .1) in
     (p .steps .within, c .before .before .before .before .before .if1 .left, omega (arith, p .steps .most))
-
-enum-known-line-2 : tie.Need-enum-known-line-2
-enum-known-line-2 c = search needs
-
-enum-known-c : tie.Need-enum-known-c
-enum-known-c c = search needs
-
-places-of-requires : tie.Need-places-of-requires
-places-of-requires c κs = search needs
 
 returns-2 : tie.Need-returns-2
 unfolding inputMost
@@ -63,18 +48,4 @@ returns-4 c =
     rw (c .places-of .ensures) (judging-right (r .before .if1 .left) p (k .read-call .ensures) (c .before .before .c .given .1))
 
 pub judge-input-spec : {M : Type 1} → statement M
-judge-input-spec =
-    tie.close
-    (tie.spec
-    returns
-    read-parameters-requires
-    enum-known-line
-    enum-known-p
-    add-read-call
-    read-call-requires
-    enum-known-line-2
-    enum-known-c
-    places-of-requires
-    returns-2
-    returns-3
-    returns-4)
+judge-input-spec = tie.close (tie.spec returns read-parameters-requires (λ c. search needs) (λ c. search needs) add-read-call read-call-requires (λ c. search needs) (λ c. search needs) (λ c κs. search needs) returns-2 returns-3 returns-4)

@@ -88,16 +88,4 @@ returns c =
     (four .write-part4 .last .1 .1 .1 .1 .1 .0) (t .write-texts .last .1 .1 .1 .1 .1 .0) (four .write-part4 .result) (t .write-texts .result) (four .write-part4 .ensures) (t .write-texts .ensures)
 
 pub write-call-spec : {M : Type 1} → statement M
-write-call-spec =
-    tie.close
-    (tie.spec
-    count-lines-requires
-    write-head-requires
-    write-part-requires
-    write-part-requires-2
-    write-part-requires-3
-    write-part-requires-4
-    write-texts-requires
-    same-length
-    same-length-2
-    returns)
+write-call-spec = tie.close (tie.spec count-lines-requires write-head-requires write-part-requires write-part-requires-2 write-part-requires-3 write-part-requires-4 write-texts-requires same-length same-length-2 returns)

@@ -87,18 +87,4 @@ returns c =
     (w .write-steps .last .1 .1 .1 .1 .1 .0) (x .write-texts .last .1 .1 .1 .1 .1 .0) (w .write-steps .result) (x .write-texts .result) (w .write-steps .ensures) (x .write-texts .ensures)
 
 pub write-parameters-spec : {M : Type 1} → statement M
-write-parameters-spec =
-    tie.close
-    (tie.spec
-    row-at-requires
-    name-of-requires
-    payload-of-requires
-    slice-write-cells
-    texts-len-requires
-    add-write-steps
-    sub-write-steps
-    write-steps-requires
-    write-texts-requires
-    same-length
-    same-length-2
-    returns)
+write-parameters-spec = tie.close (tie.spec row-at-requires name-of-requires payload-of-requires slice-write-cells texts-len-requires add-write-steps sub-write-steps write-steps-requires write-texts-requires same-length same-length-2 returns)

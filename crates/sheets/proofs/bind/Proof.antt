@@ -10,26 +10,11 @@ returns c =
     let a = c .before .before .before .args in
     binding-none (a .input .now) (a .out .now) (c .if1 .taken)
 
-judge-input-requires : tie.Need-judge-input-requires
-judge-input-requires c κs = search needs
-
-enum-known-line : tie.Need-enum-known-line
-enum-known-line c = search needs
-
-write-refused-count-requires : tie.Need-write-refused-count-requires
-write-refused-count-requires c κs = search needs
-
-enum-known-places : tie.Need-enum-known-places
-enum-known-places c = search needs
-
 bind-sheets-requires : tie.Need-bind-sheets-requires
 bind-sheets-requires c κs =
     let right = c .before .before in
     let judged = right .before .before in
     (judged .judge-input .ensures .places (right .places .given .0 .0) (right .places .given .1), judged .before .if1 .left)
-
-same-length : tie.Need-same-length
-same-length c = search needs
 
 returns-2 : tie.Need-returns-2
 returns-2 c =
@@ -39,9 +24,6 @@ returns-2 c =
     let a = judged .before .before .before .before .args in
     binding-bad (a .input .now) (a .out .now) (judged .before .if1 .left) (judged .judge-input .result) (judged .judge-input .ensures .verdict)
     (wrote .write-refused-count .last .1 .1 .0) (wrote .write-refused-count .result) (wrong .line .given .0 .0) (wrong .line .given .1) (wrote .write-refused-count .ensures)
-
-same-length-2 : tie.Need-same-length-2
-same-length-2 c = search needs
 
 returns-3 : tie.Need-returns-3
 returns-3 c =
@@ -53,16 +35,4 @@ returns-3 c =
     (bound .bind-sheets .last .1 .1 .0) (bound .bind-sheets .result) (right .places .given .0 .0) (right .places .given .1) (bound .bind-sheets .ensures)
 
 pub bind-spec : {M : Type 1} → statement M
-bind-spec =
-    tie.close
-    (tie.spec
-    returns
-    judge-input-requires
-    enum-known-line
-    write-refused-count-requires
-    enum-known-places
-    bind-sheets-requires
-    same-length
-    returns-2
-    same-length-2
-    returns-3)
+bind-spec = tie.close (tie.spec returns (λ c κs. search needs) (λ c. search needs) (λ c κs. search needs) (λ c. search needs) bind-sheets-requires (λ c. search needs) returns-2 (λ c. search needs) returns-3)

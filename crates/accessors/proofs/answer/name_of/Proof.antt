@@ -7,21 +7,6 @@ use borrow.Author.Needs.{needs}
 use Rattle.accessors.proofs.answer.name_of.Statement.{statement}
 use Rattle.accessors.proofs.answer.name_of.Tie as tie
 
-enum-known-answer : tie.Need-enum-known-answer
-enum-known-answer c = search needs
-
-name-of-requires : tie.Need-name-of-requires
-name-of-requires c κs = search needs
-
-enum-known-answer-2 : tie.Need-enum-known-answer-2
-enum-known-answer-2 c = search needs
-
-name-of-requires-2 : tie.Need-name-of-requires-2
-name-of-requires-2 c κs = search needs
-
-slice-aggregate-result : tie.Need-slice-aggregate-result
-slice-aggregate-result c = search needs
-
 returns : tie.Need-returns
 returns c = c .name-of .ensures ∙ sym (ap (nameIn _) (c .before .before .answer .given .1))
 
@@ -32,4 +17,4 @@ returns-3 : tie.Need-returns-3
 returns-3 c = let a = c .before .before .before .args in sym (nameless (a .call .now) (a .answer) (c .before .match .keys3))
 
 pub name-of-spec : {M : Type 1} → statement M
-name-of-spec = tie.close (tie.spec enum-known-answer name-of-requires enum-known-answer-2 name-of-requires-2 slice-aggregate-result returns returns-2 returns-3)
+name-of-spec = tie.close (tie.spec (λ c. search needs) (λ c κs. search needs) (λ c. search needs) (λ c κs. search needs) (λ c. search needs) returns returns-2 returns-3)

@@ -9,20 +9,11 @@ use borrow.Author.Needs.{needs}
 use Rattle.accessors.proofs.ask.ask_writing.Statement.{statement}
 use Rattle.accessors.proofs.ask.ask_writing.Tie as tie
 
-ask-call-requires : tie.Need-ask-call-requires
-ask-call-requires c κs = search needs
-
-enum-told : tie.Need-enum-told
-enum-told c = search needs
-
 returns : tie.Need-returns
 returns c =
     let asked = c .before .before in
     let told = c .enum-told .given .1 in
     ap answerOf told ∙ sym (writing-refused _ _ _ _ (sym (asked .ask-call .ensures) ∙ ap answerOf told))
-
-enum-told-2 : tie.Need-enum-told-2
-enum-told-2 c = search needs
 
 -- 9 to 13 passed
 passed : (c : tie.After-enum-told2) → let a = c .before .before .before .before .before .before .args in askCall 64 (a .cells .now) (a .area .now) ≡ fine
@@ -36,4 +27,4 @@ returns-3 c = sym (writing-fine _ _ _ (passed (c .before)) (c .if1 .left))
 
 pub ask-writing-spec : {M : Type 1} → statement M
 ask-writing-spec =
-    tie.close (tie.spec ask-call-requires enum-told returns enum-told-2 returns-2 returns-3)
+    tie.close (tie.spec (λ c κs. search needs) (λ c. search needs) returns (λ c. search needs) returns-2 returns-3)

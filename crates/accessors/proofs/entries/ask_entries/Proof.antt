@@ -44,12 +44,6 @@ ask-entry-requires c κs =
     let at = c .before .before .before in
     (at .before .before .before .pre .0 .formed (at .loop .k) (c .before .if1 .taken), at .loop .inv .1)
 
-enum-told : tie.Need-enum-told Inv-loop μ-loop
-enum-told c = search needs
-
-enum-told-2 : tie.Need-enum-told-2 Inv-loop μ-loop
-enum-told-2 c = search needs
-
 -- a refusal of entry k is the answer
 refused-at : (c : tie.After-ask-entry Inv-loop μ-loop) {n : ℕ} {d : Detail} → let a = c .before .before .before .before .before .before .before .args in let h = headOf (a .h) in
     let k = c .before .before .before .before .loop .k in
@@ -64,19 +58,10 @@ returns c =
     let e = c .before .before in
     refused-at e (sym (e .ask-entry .ensures) ∙ ap entriesAnswer (c .enum-told2 .given .1))
 
-enum-known-asked : tie.Need-enum-known-asked Inv-loop μ-loop
-enum-known-asked c = search needs
-
 returns-2 : tie.Need-returns-2 Inv-loop μ-loop
 returns-2 c =
     let e = c .before .before .before in
     refused-at e (sym (e .ask-entry .ensures) ∙ ap entriesAnswer (c .before .asked .given .1))
-
-add-k : tie.Need-add-k Inv-loop μ-loop
-add-k c = search needs
-
-loop-less : tie.Need-loop-less Inv-loop μ-loop
-loop-less c = omega arith
 
 loop-again : tie.Need-loop-again Inv-loop μ-loop
 loop-again c =
@@ -95,20 +80,4 @@ returns-3 c =
     sym (at .loop .inv .2 ∙ entries-end _ _ _ (at .loop .k) (c .if1 .left))
 
 pub ask-entries-spec : {M : Type 1} → statement M
-ask-entries-spec =
-    tie.close
-    (tie.spec
-    Inv-loop
-    μ-loop
-    loop-holds
-    add-ask-entry
-    ask-entry-requires
-    enum-told
-    enum-told-2
-    returns
-    enum-known-asked
-    returns-2
-    add-k
-    loop-less
-    loop-again
-    returns-3)
+ask-entries-spec = tie.close (tie.spec Inv-loop μ-loop loop-holds add-ask-entry ask-entry-requires (λ c. search needs) (λ c. search needs) returns (λ c. search needs) returns-2 (λ c. search needs) (λ c. omega arith) loop-again returns-3)

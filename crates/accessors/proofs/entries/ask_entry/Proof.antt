@@ -14,27 +14,6 @@ use borrow.Author.Needs.{needs}
 use Rattle.accessors.proofs.entries.ask_entry.Statement.{statement}
 use Rattle.accessors.proofs.entries.ask_entry.Tie as tie
 
-named-at-requires : tie.Need-named-at-requires
-named-at-requires c κs = search needs
-
-key-at-requires : tie.Need-key-at-requires
-key-at-requires c κs = search needs
-
-enum-known-t : tie.Need-enum-known-t
-enum-known-t c = search needs
-
-payload-requires : tie.Need-payload-requires
-payload-requires c κs = search needs
-
-ask-name-requires : tie.Need-ask-name-requires
-ask-name-requires c κs = search needs
-
-enum-told : tie.Need-enum-told
-enum-told c = search needs
-
-enum-told-2 : tie.Need-enum-told-2
-enum-told-2 c = search needs
-
 -- the answer, by the key that was read
 read-as : (c : tie.After-key-at) {r : ReadKey} → c .key-at .result ≡ r → let a = c .before .before .before .before .args in
     let names = namesIn (a .area .now) (a .cells .now) (headOf (a .h)) (a .count) in
@@ -63,16 +42,4 @@ returns-3 : tie.Need-returns-3
 returns-3 c = read-as (c .before .before) (c .enum-told2 .given .1)
 
 pub ask-entry-spec : {M : Type 1} → statement M
-ask-entry-spec =
-    tie.close
-    (tie.spec
-    named-at-requires
-    key-at-requires
-    enum-known-t
-    payload-requires
-    ask-name-requires
-    enum-told
-    enum-told-2
-    returns
-    returns-2
-    returns-3)
+ask-entry-spec = tie.close (tie.spec (λ c κs. search needs) (λ c κs. search needs) (λ c. search needs) (λ c κs. search needs) (λ c κs. search needs) (λ c. search needs) (λ c. search needs) returns returns-2 returns-3)

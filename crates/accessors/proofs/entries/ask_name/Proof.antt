@@ -12,12 +12,6 @@ use borrow.Author.Needs.{needs}
 use Rattle.accessors.proofs.entries.ask_name.Statement.{statement}
 use Rattle.accessors.proofs.entries.ask_name.Tie as tie
 
-part-requires : tie.Need-part-requires
-part-requires c κs = search needs
-
-is-named-requires : tie.Need-is-named-requires
-is-named-requires c κs = search needs
-
 -- what was answered of the name
 tested : (c : tie.After-is-named) → let a = c .before .before .before .before .args in
     among (partAt (a .area .now) (a .payload)) (textsOf (namesIn (a .area .now) (a .cells .now) (headOf (a .h)) (a .count))) ≡ c .is-named .result
@@ -32,4 +26,4 @@ returns-2 : tie.Need-returns-2
 returns-2 c = sym (ap (λ b. cond b (Repeated (c .before .before .before .before .before .args .payload)) Fine) (tested (c .before) ∙ c .if1 .left))
 
 pub ask-name-spec : {M : Type 1} → statement M
-ask-name-spec = tie.close (tie.spec part-requires is-named-requires returns returns-2)
+ask-name-spec = tie.close (tie.spec (λ c κs. search needs) (λ c κs. search needs) returns returns-2)

@@ -30,18 +30,6 @@ loop-holds c =
     let a = c .before .before .before .args in
     (search needs, ap (λ n. among (a .name .now) (textsOf (listed (pairNamed (a .area .now) (a .cells .now) (headOf (a .h))) 0 n))) (sym (sub-zero (a .count))))
 
-named-at-requires : tie.Need-named-at-requires Inv-loop μ-loop
-named-at-requires c κs = search needs
-
-pair-at-requires : tie.Need-pair-at-requires Inv-loop μ-loop
-pair-at-requires c κs = search needs
-
-part-requires : tie.Need-part-requires Inv-loop μ-loop
-part-requires c κs = search needs
-
-same-requires : tie.Need-same-requires Inv-loop μ-loop
-same-requires c κs = search needs
-
 -- what is left behind name k, and what was answered of it
 abbrev rest : tie.After-same Inv-loop μ-loop → Bool
 rest c =
@@ -64,12 +52,6 @@ returns c =
     let at = t .before .before .before .before .before in
     sym (at .loop .inv .1 ∙ named-next _ _ _ _ _ (at .loop .k) (t .before .before .before .before .loop-test .taken) ∙ ap (λ b. b || rest t) (same-of t ∙ c .if1 .taken))
 
-add-k : tie.Need-add-k Inv-loop μ-loop
-add-k c = search needs
-
-loop-less : tie.Need-loop-less Inv-loop μ-loop
-loop-less c = omega arith
-
 loop-again : tie.Need-loop-again Inv-loop μ-loop
 loop-again c =
     let t = c .before in
@@ -82,18 +64,4 @@ returns-2 c =
     sym (at .loop .inv .1 ∙ named-end _ _ _ _ _ (at .loop .k) (c .loop-test .left))
 
 pub is-named-spec : {M : Type 1} → statement M
-is-named-spec =
-    tie.close
-    (tie.spec
-    Inv-loop
-    μ-loop
-    loop-holds
-    named-at-requires
-    pair-at-requires
-    part-requires
-    same-requires
-    returns
-    add-k
-    loop-less
-    loop-again
-    returns-2)
+is-named-spec = tie.close (tie.spec Inv-loop μ-loop loop-holds (λ c κs. search needs) (λ c κs. search needs) (λ c κs. search needs) (λ c κs. search needs) returns (λ c. search needs) (λ c. omega arith) loop-again returns-2)

@@ -6,18 +6,6 @@ use borrow.Author.Needs.{needs}
 use Rattle.accessors.proofs.entries.is_text.Statement.{statement}
 use Rattle.accessors.proofs.entries.is_text.Tie as tie
 
-key-at-requires : tie.Need-key-at-requires
-key-at-requires c κs = search needs
-
-enum-told : tie.Need-enum-told
-enum-told c = search needs
-
-enum-told-2 : tie.Need-enum-told-2
-enum-told-2 c = search needs
-
-enum-told-3 : tie.Need-enum-told-3
-enum-told-3 c = search needs
-
 returns : tie.Need-returns
 returns c = sym (ap wordRead (c .enum-told .given .1)) ∙ text-read _ _ _ (c .before .before .before .before .before .pre) (c .before .before .key-at .result) (sym (c .before .before .key-at .ensures))
 
@@ -28,6 +16,4 @@ returns-3 : tie.Need-returns-3
 returns-3 c = sym (ap wordRead (c .enum-told3 .given .1)) ∙ text-read _ _ _ (c .before .before .before .before .before .pre) (c .before .before .key-at .result) (sym (c .before .before .key-at .ensures))
 
 pub is-text-spec : {M : Type 1} → statement M
-is-text-spec =
-    tie.close
-    (tie.spec key-at-requires enum-told enum-told-2 enum-told-3 returns returns-2 returns-3)
+is-text-spec = tie.close (tie.spec (λ c κs. search needs) (λ c. search needs) (λ c. search needs) (λ c. search needs) returns returns-2 returns-3)

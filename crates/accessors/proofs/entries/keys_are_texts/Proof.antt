@@ -34,9 +34,6 @@ add-named-at c =
     let start = c .before .before .before .before .before .before in
     omega (arith, start .pre .few .few-n, start .pre .few .few-d)
 
-named-at-requires : tie.Need-named-at-requires Inv-loop μ-loop
-named-at-requires c κs = search needs
-
 is-text-requires : tie.Need-is-text-requires Inv-loop μ-loop
 is-text-requires c κs =
     let n = c in
@@ -57,12 +54,6 @@ returns c =
     let at = t .before .before .before .before .before in
     sym (at .loop .inv .1 ∙ all-stop _ _ (at .loop .k) _ (t .before .before .before .if1 .taken) (text-of t ∙ not-true _ (c .if2 .taken)))
 
-add-k : tie.Need-add-k Inv-loop μ-loop
-add-k c = search needs
-
-loop-less : tie.Need-loop-less Inv-loop μ-loop
-loop-less c = omega arith
-
 loop-again : tie.Need-loop-again Inv-loop μ-loop
 loop-again c =
     let t = c .before in
@@ -75,17 +66,4 @@ returns-2 c =
     sym (at .loop .inv .1 ∙ ap (all (λ e. isWord (e .key))) (listed-end _ (at .loop .k) _ (c .if1 .left)))
 
 pub keys-are-texts-spec : {M : Type 1} → statement M
-keys-are-texts-spec =
-    tie.close
-    (tie.spec
-    Inv-loop
-    μ-loop
-    loop-holds
-    add-named-at
-    named-at-requires
-    is-text-requires
-    returns
-    add-k
-    loop-less
-    loop-again
-    returns-2)
+keys-are-texts-spec = tie.close (tie.spec Inv-loop μ-loop loop-holds add-named-at (λ c κs. search needs) is-text-requires returns (λ c. search needs) (λ c. omega arith) loop-again returns-2)

@@ -12,20 +12,11 @@ use borrow.Author.Needs.{needs}
 use Rattle.accessors.proofs.len.len.Statement.{statement}
 use Rattle.accessors.proofs.len.len.Tie as tie
 
-ask-call-requires : tie.Need-ask-call-requires
-ask-call-requires c κs = search needs
-
-enum-known-asked : tie.Need-enum-known-asked
-enum-known-asked c = search needs
-
 returns : tie.Need-returns
 returns c =
     let told = c .before in
     let asked = told .before .before in
     len-refused _ _ _ (sym (asked .ask-call .ensures) ∙ ap answerOf (told .asked .given .1))
-
-enum-told : tie.Need-enum-told
-enum-told c = search needs
 
 -- 9 to 13 passed
 passed : (c : tie.After-enum-told) → let a = c .before .before .before .before .before .args in askCall 64 (a .cells .now) (a .area .now) ≡ fine
@@ -33,9 +24,6 @@ passed c = sym (c .before .before .ask-call .ensures) ∙ ap answerOf (c .enum-t
 
 few : (c : tie.After-read-head) → Few 64 (headOf (c .read-head .result))
 few c = passed-few _ _ _ (c .read-head .ensures) (passed (c .before))
-
-read-head-requires : tie.Need-read-head-requires
-read-head-requires c κs = search needs
 
 returns-2 : tie.Need-returns-2
 returns-2 c =
@@ -71,17 +59,4 @@ returns-4 c =
     len-gives _ _ _ (r .read-head .ensures) (passed (r .before)) (s .if1 .left) (d .if2 .left)
 
 pub len-spec : {M : Type 1} → statement M
-len-spec =
-    tie.close
-    (tie.spec
-    ask-call-requires
-    enum-known-asked
-    returns
-    enum-told
-    read-head-requires
-    returns-2
-    returns-3
-    add-positional
-    add-named
-    add-t9
-    returns-4)
+len-spec = tie.close (tie.spec (λ c κs. search needs) (λ c. search needs) returns (λ c. search needs) (λ c κs. search needs) returns-2 returns-3 add-positional add-named add-t9 returns-4)

@@ -18,33 +18,15 @@ use borrow.Author.Needs.{needs}
 use Rattle.accessors.proofs.names_map.names_map.Statement.{statement}
 use Rattle.accessors.proofs.names_map.names_map.Tie as tie
 
-ask-writing-requires : tie.Need-ask-writing-requires
-ask-writing-requires c κs = search needs
-
-enum-known-asked : tie.Need-enum-known-asked
-enum-known-asked c = search needs
-
-same-length : tie.Need-same-length
-same-length c = search needs
-
 returns : tie.Need-returns
 returns c =
     let told = c .before in
     let asked = told .before .before in
     names-refused _ _ _ _ (sym (asked .ask-writing .ensures) ∙ ap answerOf (told .asked .given .1))
 
-enum-told : tie.Need-enum-told
-enum-told c = search needs
-
 -- 9 to 14 passed
 passed : (c : tie.After-enum-told) → let a = c .before .before .before .before .before .before .before .args in askWriting 64 64 (a .cells .now) (a .area .now) (a .out .now) ≡ fine
 passed c = sym (c .before .before .ask-writing .ensures) ∙ ap answerOf (c .enum-told .given .1)
-
-read-head-requires : tie.Need-read-head-requires
-read-head-requires c κs = search needs
-
-same-length-2 : tie.Need-same-length-2
-same-length-2 c = search needs
 
 returns-2 : tie.Need-returns-2
 returns-2 c =
@@ -57,23 +39,11 @@ ask-entries-requires c κs =
     let p = writing-call _ _ _ (passed (r .before)) in
     (entries-formed _ _ _ (r .read-head .ensures) p, names-inside _ _ _ (r .read-head .ensures) p)
 
-enum-told-2 : tie.Need-enum-told-2
-enum-told-2 c = search needs
-
-same-length-3 : tie.Need-same-length-3
-same-length-3 c = search needs
-
 returns-3 : tie.Need-returns-3
 returns-3 c =
     let e = c .before .before in
     let r = e .before .before .before in
     names-entries _ _ _ _ (r .read-head .ensures) (passed (r .before)) (e .before .if1 .left) ArgsValueIsNotString 18 none (sym (ap entriesAnswer (c .enum-told2 .given .1)) ∙ e .ask-entries .ensures) refl
-
-enum-known-entries : tie.Need-enum-known-entries
-enum-known-entries c = search needs
-
-same-length-4 : tie.Need-same-length-4
-same-length-4 c = search needs
 
 returns-4 : tie.Need-returns-4
 returns-4 c =
@@ -82,9 +52,6 @@ returns-4 c =
     let r = e .before .before .before in
     let key = told .entries .given .0 .0 in
     names-entries _ _ _ _ (r .read-head .ensures) (passed (r .before)) (e .before .if1 .left) (RepeatedArg key) 19 (name (placeOf callArea key)) (sym (ap entriesAnswer (told .entries .given .1)) ∙ e .ask-entries .ensures) refl
-
-enum-told-3 : tie.Need-enum-told-3
-enum-told-3 c = search needs
 
 -- 18 and 19 passed
 none-refused : (c : tie.After-enum-told3) → let r = c .before .before .before .before .before in let a = r .before .before .before .before .before .before .before .before .args in
@@ -104,9 +71,6 @@ write-named-requires c κs =
     let r = e .before .before .before in
     (writing-texts _ _ _ _ (r .read-head .ensures) (passed (r .before)) (e .before .if1 .left) (none-refused t), writing-room _ _ _ _ (r .read-head .ensures) (passed (r .before)) (e .before .if1 .left) (none-refused t))
 
-same-length-5 : tie.Need-same-length-5
-same-length-5 c = search needs
-
 returns-5 : tie.Need-returns-5
 returns-5 c =
     let w = c .before .before in
@@ -116,26 +80,4 @@ returns-5 c =
     names-written _ _ _ _ (r .read-head .ensures) (passed (r .before)) (e .before .if1 .left) (none-refused t) _ (w .write-named .ensures _)
 
 pub names-map-spec : {M : Type 1} → statement M
-names-map-spec =
-    tie.close
-    (tie.spec
-    ask-writing-requires
-    enum-known-asked
-    same-length
-    returns
-    enum-told
-    read-head-requires
-    same-length-2
-    returns-2
-    ask-entries-requires
-    enum-told-2
-    same-length-3
-    returns-3
-    enum-known-entries
-    same-length-4
-    returns-4
-    enum-told-3
-    add-count
-    write-named-requires
-    same-length-5
-    returns-5)
+names-map-spec = tie.close (tie.spec (λ c κs. search needs) (λ c. search needs) (λ c. search needs) returns (λ c. search needs) (λ c κs. search needs) (λ c. search needs) returns-2 ask-entries-requires (λ c. search needs) (λ c. search needs) returns-3 (λ c. search needs) (λ c. search needs) returns-4 (λ c. search needs) add-count write-named-requires (λ c. search needs) returns-5)

@@ -30,38 +30,11 @@ loop-holds c =
     let start = c .before .before in
     (search needs, refl, λ area. sym (stored-none (start .args .out .now) 0 (omega arith)))
 
-named-at-requires : tie.Need-named-at-requires Inv-loop μ-loop
-named-at-requires c κs = search needs
-
-mul-to : tie.Need-mul-to Inv-loop μ-loop
-mul-to c = search needs
-
-pair-at-requires : tie.Need-pair-at-requires Inv-loop μ-loop
-pair-at-requires c κs = search needs
-
-put-requires : tie.Need-put-requires Inv-loop μ-loop
-put-requires c κs = search needs
-
-add-put : tie.Need-add-put Inv-loop μ-loop
-add-put c = search needs
-
 add-pair-at : tie.Need-add-pair-at Inv-loop μ-loop
 add-pair-at c =
     let n = c .before .before .before .before .before .before in
     let at = n .before .before in
     omega (arith, n .named-at .ensures, at .before .before .before .pre .0 .near (at .loop .k) (n .before .loop-test .taken))
-
-pair-at-requires-2 : tie.Need-pair-at-requires-2 Inv-loop μ-loop
-pair-at-requires-2 c κs = search needs
-
-put-requires-2 : tie.Need-put-requires-2 Inv-loop μ-loop
-put-requires-2 c κs = search needs
-
-add-k : tie.Need-add-k Inv-loop μ-loop
-add-k c = search needs
-
-loop-less : tie.Need-loop-less Inv-loop μ-loop
-loop-less c = omega arith
 
 loop-again : tie.Need-loop-again Inv-loop μ-loop
 loop-again c =
@@ -93,22 +66,4 @@ returns c =
     λ area. at .inv .2 area ∙ ap (λ n. stored (a .out .now) 0 (writeEach namedCells (namesIn area (a .cells .now) (headOf (a .h)) n))) whole
 
 pub write-named-spec : {M : Type 1} → statement M
-write-named-spec =
-    tie.close
-    (tie.spec
-    Inv-loop
-    μ-loop
-    loop-holds
-    named-at-requires
-    mul-to
-    pair-at-requires
-    put-requires
-    add-put
-    add-pair-at
-    pair-at-requires-2
-    put-requires-2
-    add-k
-    loop-less
-    loop-again
-    same-length
-    returns)
+write-named-spec = tie.close (tie.spec Inv-loop μ-loop loop-holds (λ c κs. search needs) (λ c. search needs) (λ c κs. search needs) (λ c κs. search needs) (λ c. search needs) add-pair-at (λ c κs. search needs) (λ c κs. search needs) (λ c. search needs) (λ c. omega arith) loop-again same-length returns)

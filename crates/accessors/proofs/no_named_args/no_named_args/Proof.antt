@@ -16,27 +16,15 @@ use borrow.Author.Needs.{needs}
 use Rattle.accessors.proofs.no_named_args.no_named_args.Statement.{statement}
 use Rattle.accessors.proofs.no_named_args.no_named_args.Tie as tie
 
-ask-call-requires : tie.Need-ask-call-requires
-ask-call-requires c κs = search needs
-
-enum-known-asked : tie.Need-enum-known-asked
-enum-known-asked c = search needs
-
 returns : tie.Need-returns
 returns c =
     let told = c .before in
     let asked = told .before .before in
     none-refused _ _ _ (sym (asked .ask-call .ensures) ∙ ap answerOf (told .asked .given .1))
 
-enum-told : tie.Need-enum-told
-enum-told c = search needs
-
 -- 9 to 13 passed
 passed : (c : tie.After-enum-told) → let a = c .before .before .before .before .before .args in askCall 64 (a .cells .now) (a .area .now) ≡ fine
 passed c = sym (c .before .before .ask-call .ensures) ∙ ap answerOf (c .enum-told .given .1)
-
-read-head-requires : tie.Need-read-head-requires
-read-head-requires c κs = search needs
 
 returns-2 : tie.Need-returns-2
 returns-2 c =
@@ -66,12 +54,6 @@ returns-4 c =
     let r = k .before .before .before in
     none-gives _ _ _ (r .read-head .ensures) (passed (r .before)) (k .before .if1 .left) (sym (k .keys-are-texts .ensures) ∙ not-false _ (t .if2 .left)) (c .if3 .taken)
 
-named-at-requires : tie.Need-named-at-requires
-named-at-requires c κs = search needs
-
-pair-at-requires : tie.Need-pair-at-requires
-pair-at-requires c κs = search needs
-
 returns-5 : tie.Need-returns-5
 returns-5 c =
     let e = c .before .before in
@@ -84,19 +66,4 @@ returns-5 c =
     ∙ none-extra _ _ _ (r .read-head .ensures) (passed (r .before)) (k .before .if1 .left) (sym (k .keys-are-texts .ensures) ∙ not-false _ (t .if2 .left)) (h .n + h .d) refl (e .if3 .left)
 
 pub no-named-args-spec : {M : Type 1} → statement M
-no-named-args-spec =
-    tie.close
-    (tie.spec
-    ask-call-requires
-    enum-known-asked
-    returns
-    enum-told
-    read-head-requires
-    returns-2
-    keys-are-texts-requires
-    returns-3
-    add-count
-    returns-4
-    named-at-requires
-    pair-at-requires
-    returns-5)
+no-named-args-spec = tie.close (tie.spec (λ c κs. search needs) (λ c. search needs) returns (λ c. search needs) (λ c κs. search needs) returns-2 keys-are-texts-requires returns-3 add-count returns-4 (λ c κs. search needs) (λ c κs. search needs) returns-5)

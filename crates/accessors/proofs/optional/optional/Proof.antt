@@ -18,15 +18,6 @@ returns c = optional-required _ _ _ _ _ (c .if1 .taken)
 returns-2 : tie.Need-returns-2
 returns-2 c = optional-more _ _ _ _ _ (c .if2 .taken)
 
-ask-writing-requires : tie.Need-ask-writing-requires
-ask-writing-requires c κs = search needs
-
-enum-known-asked : tie.Need-enum-known-asked
-enum-known-asked c = search needs
-
-same-length : tie.Need-same-length
-same-length c = search needs
-
 returns-3 : tie.Need-returns-3
 returns-3 c =
     let told = c .before in
@@ -34,18 +25,9 @@ returns-3 c =
     let n = asked .before .before in
     optional-refused _ _ _ _ _ (n .before .if1 .left) (n .if2 .left) _ (sym (asked .ask-writing .ensures) ∙ ap answerOf (told .asked .given .1))
 
-enum-told : tie.Need-enum-told
-enum-told c = search needs
-
 -- 9 to 14 passed
 passed : (c : tie.After-enum-told) → let a = c .before .before .before .before .before .before .before .before .before .args in askWriting 64 64 (a .cells .now) (a .area .now) (a .out .now) ≡ fine
 passed c = sym (c .before .before .ask-writing .ensures) ∙ ap answerOf (c .enum-told .given .1)
-
-read-head-requires : tie.Need-read-head-requires
-read-head-requires c κs = search needs
-
-same-length-2 : tie.Need-same-length-2
-same-length-2 c = search needs
 
 returns-4 : tie.Need-returns-4
 returns-4 c =
@@ -58,21 +40,12 @@ add-got c =
     let r = c .before .before .before in
     omega (arith, values-few _ _ _ _ (r .read-head .ensures) (passed (r .before)))
 
-add-most : tie.Need-add-most
-add-most c = search needs
-
-same-length-3 : tie.Need-same-length-3
-same-length-3 c = search needs
-
 returns-5 : tie.Need-returns-5
 returns-5 c =
     let s = c .before .before in
     let r = s .before .before in
     let n = r .before .before .before .before .before in
     optional-number _ _ _ _ _ (n .before .if1 .left) (n .if2 .left) _ (r .read-head .ensures) (passed (r .before)) (s .if3 .left) (number-few _ _ _ (c .if4 .taken))
-
-same-length-4 : tie.Need-same-length-4
-same-length-4 c = search needs
 
 returns-6 : tie.Need-returns-6
 returns-6 c =
@@ -94,9 +67,6 @@ write-values-requires c κs =
     let r = c .before .before .before .before .before .before in
     (omega arith, values-room _ _ _ _ (r .read-head .ensures) (passed (r .before)))
 
-mul-write-missing : tie.Need-mul-write-missing
-mul-write-missing c = search needs
-
 write-missing-requires : tie.Need-write-missing-requires
 write-missing-requires c κs =
     let w = c .before .before .before in
@@ -106,9 +76,6 @@ write-missing-requires c κs =
     let n = r .before .before .before .before .before in
     rw (w .write-values .kept .1 .1 .1 .1 .1 .0)
     (missing-room _ _ _ _ _ (n .before .if1 .left) (n .if2 .left) _ (r .read-head .ensures) (passed (r .before)) (s .if3 .left) (u .before .if4 .left) (no-more u))
-
-same-length-5 : tie.Need-same-length-5
-same-length-5 c = search needs
 
 returns-7 : tie.Need-returns-7
 returns-7 c =
@@ -121,27 +88,4 @@ returns-7 c =
     optional-written _ _ _ _ _ (n .before .if1 .left) (n .if2 .left) _ (r .read-head .ensures) (passed (r .before)) (s .if3 .left) (u .before .if4 .left) (no-more u) _ _ (w .write-values .ensures) (m .write-missing .ensures)
 
 pub optional-spec : {M : Type 1} → statement M
-optional-spec =
-    tie.close
-    (tie.spec
-    returns
-    returns-2
-    ask-writing-requires
-    enum-known-asked
-    same-length
-    returns-3
-    enum-told
-    read-head-requires
-    same-length-2
-    returns-4
-    add-got
-    add-most
-    same-length-3
-    returns-5
-    same-length-4
-    returns-6
-    write-values-requires
-    mul-write-missing
-    write-missing-requires
-    same-length-5
-    returns-7)
+optional-spec = tie.close (tie.spec returns returns-2 (λ c κs. search needs) (λ c. search needs) (λ c. search needs) returns-3 (λ c. search needs) (λ c κs. search needs) (λ c. search needs) returns-4 add-got (λ c. search needs) (λ c. search needs) returns-5 (λ c. search needs) returns-6 write-values-requires (λ c. search needs) write-missing-requires (λ c. search needs) returns-7)

@@ -25,24 +25,6 @@ abbrev μ-loop : tie.MeasureT-loop
 loop-holds : tie.Need-loop-holds Inv-loop μ-loop
 loop-holds c = (search needs, refl, sym (stored-none (c .before .args .out .now) (c .before .args .at) (omega (arith, c .before .pre))))
 
-mul-put : tie.Need-mul-put Inv-loop μ-loop
-mul-put c = search needs
-
-add-put : tie.Need-add-put Inv-loop μ-loop
-add-put c = search needs
-
-new-requires : tie.Need-new-requires Inv-loop μ-loop
-new-requires c κs = search needs
-
-put-requires : tie.Need-put-requires Inv-loop μ-loop
-put-requires c κs = search needs
-
-add-k : tie.Need-add-k Inv-loop μ-loop
-add-k c = search needs
-
-loop-less : tie.Need-loop-less Inv-loop μ-loop
-loop-less c = omega arith
-
 loop-again : tie.Need-loop-again Inv-loop μ-loop
 unfolding noValue
 loop-again c =
@@ -67,18 +49,4 @@ returns c =
     at .inv .2 ∙ ap (λ vs. stored (a .out .now) (a .at) (writeEach valueCells vs)) (ap (listed (λ j. noValue) 0) whole ∙ missing-listed 0 (a .count))
 
 pub write-missing-spec : {M : Type 1} → statement M
-write-missing-spec =
-    tie.close
-    (tie.spec
-    Inv-loop
-    μ-loop
-    loop-holds
-    mul-put
-    add-put
-    new-requires
-    put-requires
-    add-k
-    loop-less
-    loop-again
-    same-length
-    returns)
+write-missing-spec = tie.close (tie.spec Inv-loop μ-loop loop-holds (λ c. search needs) (λ c. search needs) (λ c κs. search needs) (λ c κs. search needs) (λ c. search needs) (λ c. omega arith) loop-again same-length returns)

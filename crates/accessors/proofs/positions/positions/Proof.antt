@@ -10,33 +10,15 @@ use borrow.Author.Needs.{needs}
 use Rattle.accessors.proofs.positions.positions.Statement.{statement}
 use Rattle.accessors.proofs.positions.positions.Tie as tie
 
-ask-writing-requires : tie.Need-ask-writing-requires
-ask-writing-requires c κs = search needs
-
-enum-known-asked : tie.Need-enum-known-asked
-enum-known-asked c = search needs
-
-same-length : tie.Need-same-length
-same-length c = search needs
-
 returns : tie.Need-returns
 returns c =
     let told = c .before in
     let asked = told .before .before in
     positions-refused _ _ _ _ (sym (asked .ask-writing .ensures) ∙ ap answerOf (told .asked .given .1))
 
-enum-told : tie.Need-enum-told
-enum-told c = search needs
-
 -- 9 to 14 passed
 passed : (c : tie.After-enum-told) → let a = c .before .before .before .before .before .before .before .args in askWriting 64 64 (a .cells .now) (a .area .now) (a .out .now) ≡ fine
 passed c = sym (c .before .before .ask-writing .ensures) ∙ ap answerOf (c .enum-told .given .1)
-
-read-head-requires : tie.Need-read-head-requires
-read-head-requires c κs = search needs
-
-same-length-2 : tie.Need-same-length-2
-same-length-2 c = search needs
 
 returns-2 : tie.Need-returns-2
 returns-2 c =
@@ -53,9 +35,6 @@ write-values-requires c κs =
     let r = c .before .before .before .before in
     (omega arith, values-room _ _ _ _ (r .read-head .ensures) (passed (r .before)))
 
-same-length-3 : tie.Need-same-length-3
-same-length-3 c = search needs
-
 returns-3 : tie.Need-returns-3
 returns-3 c =
     let w = c .before .before in
@@ -64,18 +43,4 @@ returns-3 c =
     positions-written _ _ _ _ (r .read-head .ensures) (passed (r .before)) (e .if1 .left) _ (w .write-values .ensures)
 
 pub positions-spec : {M : Type 1} → statement M
-positions-spec =
-    tie.close
-    (tie.spec
-    ask-writing-requires
-    enum-known-asked
-    same-length
-    returns
-    enum-told
-    read-head-requires
-    same-length-2
-    returns-2
-    add-got
-    write-values-requires
-    same-length-3
-    returns-3)
+positions-spec = tie.close (tie.spec (λ c κs. search needs) (λ c. search needs) (λ c. search needs) returns (λ c. search needs) (λ c κs. search needs) (λ c. search needs) returns-2 add-got write-values-requires (λ c. search needs) returns-3)

@@ -27,27 +27,6 @@ loop-holds : tie.Need-loop-holds Inv-loop μ-loop
 unfolding knownIn
 loop-holds c = (search needs, rw sub-zero)
 
-mul-bytes-at : tie.Need-mul-bytes-at Inv-loop μ-loop
-mul-bytes-at c = search needs
-
-element-copy-out-bytes-at : tie.Need-element-copy-out-bytes-at Inv-loop μ-loop
-element-copy-out-bytes-at c = search needs
-
-bytes-at-requires : tie.Need-bytes-at-requires Inv-loop μ-loop
-bytes-at-requires c κs = search needs
-
-same-requires : tie.Need-same-requires Inv-loop μ-loop
-same-requires c κs = search needs
-
-element-copy-out-nameable : tie.Need-element-copy-out-nameable Inv-loop μ-loop
-element-copy-out-nameable c = search needs
-
-element-copy-out-nameable-2 : tie.Need-element-copy-out-nameable-2 Inv-loop μ-loop
-element-copy-out-nameable-2 c = search needs
-
-nameable-requires : tie.Need-nameable-requires Inv-loop μ-loop
-nameable-requires c κs = search needs
-
 returns : tie.Need-returns Inv-loop μ-loop
 returns c =
     let s = c .before .before .before .before .before in
@@ -58,12 +37,6 @@ returns c =
     ∙ any-hit (namedAt (a .area .now) (a .codes .now) (a .styles .now) (a .names .now) (a .bytes .now)) (λ j. j) (at .i) (a .len) (s .before .before .before .loop-test .taken)
     (named-same (a .area .now) (a .codes .now) (a .styles .now) (a .names .now) (a .bytes .now) (at .i) (s .before .bytes-at .ensures) (s .same .ensures) (c .before .before .before .before .if1 .taken) (c .before .nameable .ensures)
     ∙ c .if2 .taken))
-
-add-i : tie.Need-add-i Inv-loop μ-loop
-add-i c = search needs
-
-loop-less : tie.Need-loop-less Inv-loop μ-loop
-loop-less c = search needs
 
 loop-again : tie.Need-loop-again Inv-loop μ-loop
 loop-again c =
@@ -90,21 +63,4 @@ returns-2 c =
     (listed-end (λ j. j) (c .before .loop .i) (a .len) (c .loop-test .left)))
 
 pub known-spec : {M : Type 1} → statement M
-known-spec =
-    tie.close
-    (tie.spec
-    Inv-loop
-    μ-loop
-    loop-holds
-    mul-bytes-at
-    element-copy-out-bytes-at
-    bytes-at-requires
-    same-requires
-    element-copy-out-nameable
-    element-copy-out-nameable-2
-    nameable-requires
-    returns
-    add-i
-    loop-less
-    loop-again
-    returns-2)
+known-spec = tie.close (tie.spec Inv-loop μ-loop loop-holds (λ c. search needs) (λ c. search needs) (λ c κs. search needs) (λ c κs. search needs) (λ c. search needs) (λ c. search needs) (λ c κs. search needs) returns (λ c. search needs) (λ c. search needs) loop-again returns-2)

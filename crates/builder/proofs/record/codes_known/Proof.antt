@@ -22,9 +22,6 @@ Inv-loop cells m i₀ i =
 abbrev μ-loop : tie.MeasureT-loop
 μ-loop cells m i₀ i = m - i
 
-step-count-requires : tie.Need-step-count-requires Inv-loop μ-loop
-step-count-requires c κs = search needs
-
 loop-holds : tie.Need-loop-holds Inv-loop μ-loop
 unfolding codesKnown
 loop-holds c = (search needs, each-start (λ t. isCode (act t)) (c .before .before .args .cells .now) (c .step-count .result) (c .step-count .ensures))
@@ -32,18 +29,9 @@ loop-holds c = (search needs, each-start (λ t. isCode (act t)) (c .before .befo
 step-at-requires : tie.Need-step-at-requires Inv-loop μ-loop
 step-at-requires c κs = rw (← c .before .before .step-count .ensures) (c .loop-test .taken)
 
-is-code-requires : tie.Need-is-code-requires Inv-loop μ-loop
-is-code-requires c κs = search needs
-
 returns : tie.Need-returns Inv-loop μ-loop
 unfolding codesKnown
 returns c = each-stop (λ t. isCode (act t)) (c .before .before .before .before .before .before .before .args .cells .now) (c .before .before .before .before .before .step-count .result) (c .before .before .before .before .loop .i) (c .before .before .before .before .loop .inv .1) (c .before .before .before .loop-test .taken) (c .before .before .step-at .ensures) (c .before .is-code .ensures) (c .if1 .taken)
-
-add-i : tie.Need-add-i Inv-loop μ-loop
-add-i c = search needs
-
-loop-less : tie.Need-loop-less Inv-loop μ-loop
-loop-less c = search needs
 
 loop-again : tie.Need-loop-again Inv-loop μ-loop
 loop-again c = (search needs, each-next (λ t. isCode (act t)) (c .before .before .before .before .before .before .before .args .cells .now) (c .before .before .before .before .before .step-count .result) (c .before .before .before .before .loop .i) (c .before .before .before .before .loop .inv .1) (c .before .before .before .loop-test .taken) (c .before .before .step-at .ensures) (c .before .is-code .ensures) (c .if1 .left))
@@ -53,17 +41,4 @@ unfolding codesKnown
 returns-2 c = each-end (λ t. isCode (act t)) (c .before .before .before .before .args .cells .now) (c .before .before .step-count .result) (c .before .loop .i) (c .before .loop .inv .1) (c .loop-test .left)
 
 pub codes-known-spec : {M : Type 1} → statement M
-codes-known-spec =
-    tie.close
-    (tie.spec
-    Inv-loop
-    μ-loop
-    step-count-requires
-    loop-holds
-    step-at-requires
-    is-code-requires
-    returns
-    add-i
-    loop-less
-    loop-again
-    returns-2)
+codes-known-spec = tie.close (tie.spec Inv-loop μ-loop (λ c κs. search needs) loop-holds step-at-requires (λ c κs. search needs) returns (λ c. search needs) (λ c. search needs) loop-again returns-2)

@@ -23,9 +23,6 @@ Inv-loop cells area m i₀ i =
 abbrev μ-loop : tie.MeasureT-loop
 μ-loop cells area m i₀ i = m - i
 
-step-count-requires : tie.Need-step-count-requires Inv-loop μ-loop
-step-count-requires c κs = search needs
-
 loop-holds : tie.Need-loop-holds Inv-loop μ-loop
 unfolding defaultsRight stepOf
 loop-holds c = (search needs, each-start (λ t. usesRight (c .before .before .before .args .area .now) (act t) (t .name) (t .default)) (c .before .before .before .args .cells .now) (c .step-count .result) (c .step-count .ensures))
@@ -33,18 +30,9 @@ loop-holds c = (search needs, each-start (λ t. usesRight (c .before .before .be
 step-at-requires : tie.Need-step-at-requires Inv-loop μ-loop
 step-at-requires c κs = rw (← c .before .before .step-count .ensures) (c .loop-test .taken)
 
-uses-right-requires : tie.Need-uses-right-requires Inv-loop μ-loop
-uses-right-requires c κs = search needs
-
 returns : tie.Need-returns Inv-loop μ-loop
 unfolding defaultsRight stepOf
 returns c = each-stop (λ t. usesRight (c .before .before .before .before .before .before .before .before .args .area .now) (act t) (t .name) (t .default)) (c .before .before .before .before .before .before .before .before .args .cells .now) (c .before .before .before .before .before .step-count .result) (c .before .before .before .before .loop .i) (c .before .before .before .before .loop .inv .1) (c .before .before .before .loop-test .taken) (c .before .before .step-at .ensures) (c .before .uses-right .ensures) (c .if1 .taken)
-
-add-i : tie.Need-add-i Inv-loop μ-loop
-add-i c = search needs
-
-loop-less : tie.Need-loop-less Inv-loop μ-loop
-loop-less c = search needs
 
 loop-again : tie.Need-loop-again Inv-loop μ-loop
 unfolding stepOf
@@ -55,17 +43,4 @@ unfolding defaultsRight stepOf
 returns-2 c = each-end (λ t. usesRight (c .before .before .before .before .before .args .area .now) (act t) (t .name) (t .default)) (c .before .before .before .before .before .args .cells .now) (c .before .before .step-count .result) (c .before .loop .i) (c .before .loop .inv .1) (c .loop-test .left)
 
 pub defaults-right-spec : {M : Type 1} → statement M
-defaults-right-spec =
-    tie.close
-    (tie.spec
-    Inv-loop
-    μ-loop
-    step-count-requires
-    loop-holds
-    step-at-requires
-    uses-right-requires
-    returns
-    add-i
-    loop-less
-    loop-again
-    returns-2)
+defaults-right-spec = tie.close (tie.spec Inv-loop μ-loop (λ c κs. search needs) loop-holds step-at-requires (λ c κs. search needs) returns (λ c. search needs) (λ c. search needs) loop-again returns-2)

@@ -10,15 +10,6 @@ use Rattle.builder.proofs.LawsRecord.{cond-true, cond-false, value-or-n
 use Rattle.builder.proofs.record.is_default.Statement.{statement}
 use Rattle.builder.proofs.record.is_default.Tie as tie
 
-read-default-requires : tie.Need-read-default-requires
-read-default-requires c κs = search needs
-
-enum-told : tie.Need-enum-told
-enum-told c = search needs
-
-enum-told-2 : tie.Need-enum-told-2
-enum-told-2 c = search needs
-
 returns : tie.Need-returns
 unfolding readDefault
 returns c =
@@ -39,4 +30,4 @@ returns-2 c =
 
 pub is-default-spec : {M : Type 1} → statement M
 is-default-spec =
-    tie.close (tie.spec read-default-requires enum-told enum-told-2 returns returns-2)
+    tie.close (tie.spec (λ c κs. search needs) (λ c. search needs) (λ c. search needs) returns returns-2)

@@ -9,15 +9,6 @@ use Rattle.builder.proofs.LawsRecord.{cond-true, cond-false, text-or-no
 use Rattle.builder.proofs.record.is_name.Statement.{statement}
 use Rattle.builder.proofs.record.is_name.Tie as tie
 
-read-text-requires : tie.Need-read-text-requires
-read-text-requires c κs = search needs
-
-enum-told : tie.Need-enum-told
-enum-told c = search needs
-
-enum-told-2 : tie.Need-enum-told-2
-enum-told-2 c = search needs
-
 returns : tie.Need-returns
 unfolding readText
 returns c =
@@ -37,4 +28,4 @@ returns-2 c =
     (λ e. text-or-not (sym e ∙ sym read ∙ told))
 
 pub is-name-spec : {M : Type 1} → statement M
-is-name-spec = tie.close (tie.spec read-text-requires enum-told enum-told-2 returns returns-2)
+is-name-spec = tie.close (tie.spec (λ c κs. search needs) (λ c. search needs) (λ c. search needs) returns returns-2)

@@ -21,19 +21,10 @@ Inv-loop cells area m i₀ i =
 abbrev μ-loop : tie.MeasureT-loop
 μ-loop cells area m i₀ i = m - i
 
-cell-requires : tie.Need-cell-requires Inv-loop μ-loop
-cell-requires c κs = search needs
-
-is-name-requires : tie.Need-is-name-requires Inv-loop μ-loop
-is-name-requires c κs = search needs
-
 returns : tie.Need-returns Inv-loop μ-loop
 returns c =
     let a = c .before .before .before .before .before .args in
     function-not (a .area .now) (a .cells .now) (c .before .before .cell .ensures) (c .before .is-name .ensures) (c .if1 .taken)
-
-step-count-requires : tie.Need-step-count-requires Inv-loop μ-loop
-step-count-requires c κs = search needs
 
 loop-holds : tie.Need-loop-holds Inv-loop μ-loop
 loop-holds c =
@@ -46,19 +37,10 @@ loop-holds c =
 step-at-requires : tie.Need-step-at-requires Inv-loop μ-loop
 step-at-requires c κs = rw (← c .before .before .step-count .ensures) (c .loop-test .taken)
 
-name-inside-requires : tie.Need-name-inside-requires Inv-loop μ-loop
-name-inside-requires c κs = search needs
-
 returns-2 : tie.Need-returns-2 Inv-loop μ-loop
 returns-2 c =
     let a = c .before .before .before .before .before .before .before .before .before .before .before .args in
     each-stop (stepName (a .area .now)) (a .cells .now) (c .before .before .before .before .before .step-count .result) (c .before .before .before .before .loop .i) (c .before .before .before .before .loop .inv .1) (c .before .before .before .loop-test .taken) (c .before .before .step-at .ensures) (c .before .name-inside .ensures) (c .if2 .taken)
-
-add-i : tie.Need-add-i Inv-loop μ-loop
-add-i c = search needs
-
-loop-less : tie.Need-loop-less Inv-loop μ-loop
-loop-less c = search needs
 
 loop-again : tie.Need-loop-again Inv-loop μ-loop
 loop-again c =
@@ -71,20 +53,4 @@ returns-3 c =
     each-end (stepName (a .area .now)) (a .cells .now) (c .before .before .step-count .result) (c .before .loop .i) (c .before .loop .inv .1) (c .loop-test .left)
 
 pub names-inside-spec : {M : Type 1} → statement M
-names-inside-spec =
-    tie.close
-    (tie.spec
-    Inv-loop
-    μ-loop
-    cell-requires
-    is-name-requires
-    returns
-    step-count-requires
-    loop-holds
-    step-at-requires
-    name-inside-requires
-    returns-2
-    add-i
-    loop-less
-    loop-again
-    returns-3)
+names-inside-spec = tie.close (tie.spec Inv-loop μ-loop (λ c κs. search needs) (λ c κs. search needs) returns (λ c κs. search needs) loop-holds step-at-requires (λ c κs. search needs) returns-2 (λ c. search needs) (λ c. search needs) loop-again returns-3)

@@ -64,20 +64,4 @@ unfolding stepOf
 returns c = rw stepAt-cells
 
 pub step-at-spec : {M : Type 1} → statement M
-step-at-spec =
-    tie.close
-    (tie.spec
-    mul-at
-    add-at
-    mul-t4
-    shared-slice-read-t6
-    add-t7
-    mul-t8
-    shared-slice-read-t10
-    add-t11
-    mul-t12
-    shared-slice-read-t14
-    add-t15
-    mul-t16
-    shared-slice-read-t18
-    returns)
+step-at-spec = tie.close (tie.spec mul-at add-at mul-t4 shared-slice-read-t6 add-t7 mul-t8 shared-slice-read-t10 add-t11 mul-t12 shared-slice-read-t14 add-t15 mul-t16 shared-slice-read-t18 returns)

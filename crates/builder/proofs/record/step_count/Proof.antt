@@ -10,12 +10,9 @@ returns : tie.Need-returns
 unfolding stepCount stepWidth
 returns c = omega arith
 
-sub-result : tie.Need-sub-result
-sub-result c = search needs
-
 returns-2 : tie.Need-returns-2
 unfolding stepCount stepWidth
 returns-2 c = omega arith
 
 pub step-count-spec : {M : Type 1} → statement M
-step-count-spec = tie.close (tie.spec returns sub-result returns-2)
+step-count-spec = tie.close (tie.spec returns (λ c. search needs) returns-2)

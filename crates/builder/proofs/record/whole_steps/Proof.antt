@@ -10,9 +10,6 @@ use Rattle.rules.specs.ParameterRecord.{stepCount, stepWidth, parameterLength}
 use Rattle.builder.proofs.record.whole_steps.Statement.{statement}
 use Rattle.builder.proofs.record.whole_steps.Tie as tie
 
-step-count-requires : tie.Need-step-count-requires
-step-count-requires c κs = search needs
-
 mul-if1 : tie.Need-mul-if1
 unfolding stepCount stepWidth
 mul-if1 c = omega (arith, c .step-count .ensures)
@@ -27,9 +24,6 @@ returns c =
     let cells = c .before .before .before .args .cells .now in
     rw (← c .before .step-count .ensures, ne-eqb (length cells) (1 + 4 * c .before .step-count .result) (c .if1 .taken))
 
-add-result : tie.Need-add-result
-add-result c = search needs
-
 returns-2 : tie.Need-returns-2
 unfolding wholeSteps parameterLength stepWidth
 returns-2 c =
@@ -38,4 +32,4 @@ returns-2 c =
 
 pub whole-steps-spec : {M : Type 1} → statement M
 whole-steps-spec =
-    tie.close (tie.spec step-count-requires mul-if1 add-if1 returns add-result returns-2)
+    tie.close (tie.spec (λ c κs. search needs) mul-if1 add-if1 returns (λ c. search needs) returns-2)

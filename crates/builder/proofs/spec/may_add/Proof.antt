@@ -8,9 +8,6 @@ use Rattle.builder.proofs.spec.may_add.Tie as tie
 returns : tie.Need-returns
 returns c = rw (le-ltb (c .before .before .args .len) 64 (c .if1 .taken))
 
-name-is-new-requires : tie.Need-name-is-new-requires
-name-is-new-requires c κs = search needs
-
 returns-2 : tie.Need-returns-2
 returns-2 c =
     rw (
@@ -28,4 +25,4 @@ returns-3 c =
     )
 
 pub may-add-spec : {M : Type 1} → statement M
-may-add-spec = tie.close (tie.spec returns name-is-new-requires returns-2 returns-3)
+may-add-spec = tie.close (tie.spec returns (λ c κs. search needs) returns-2 returns-3)

@@ -55,12 +55,6 @@ add-at : tie.Need-add-at Inv-loop μ-loop
 unfolding pairWidth
 add-at c = omega (arith, c .before .before .before .loop .inv .0 .within)
 
-sub-left : tie.Need-sub-left Inv-loop μ-loop
-sub-left c = search needs
-
-loop-less : tie.Need-loop-less Inv-loop μ-loop
-loop-less c = omega arith
-
 loop-again : tie.Need-loop-again Inv-loop μ-loop
 unfolding pairWidth readPair pairAt
 loop-again c =
@@ -79,16 +73,4 @@ returns-2 c =
     sym (c .before .loop .inv .1 ∙ ap (holds (a .area .now) (keyThere (a .area .now) (a .cells .now) (a .key))) (each-none pairWidth readPair _ _ (c .loop-test .left)))
 
 pub key-new-spec : {M : Type 1} → statement M
-key-new-spec =
-    tie.close
-    (tie.spec
-    Inv-loop
-    μ-loop
-    loop-holds
-    same-key-requires
-    returns
-    add-at
-    sub-left
-    loop-less
-    loop-again
-    returns-2)
+key-new-spec = tie.close (tie.spec Inv-loop μ-loop loop-holds same-key-requires returns add-at (λ c. search needs) (λ c. omega arith) loop-again returns-2)

@@ -46,9 +46,6 @@ loop-holds c =
 sub-behind : tie.Need-sub-behind Inv-loop μ-loop
 sub-behind c = omega (arith, c .before .loop .inv .few)
 
-sub-left : tie.Need-sub-left Inv-loop μ-loop
-sub-left c = search needs
-
 mul-at : tie.Need-mul-at Inv-loop μ-loop
 unfolding pairWidth
 mul-at c = omega (arith, c .before .loop .inv .few, c .before .before .before .before .before .pre .within)
@@ -104,9 +101,6 @@ returns-2 c =
 array-write-marks : tie.Need-array-write-marks Inv-loop μ-loop
 array-write-marks c = below (c .before .before)
 
-loop-less : tie.Need-loop-less Inv-loop μ-loop
-loop-less c = omega arith
-
 loop-again : tie.Need-loop-again Inv-loop μ-loop
 unfolding pairWidth readPair pairAt
 loop-again c =
@@ -126,22 +120,4 @@ returns-3 c =
     sym (walked-end (entrySlot (a .area .now)) (first (a .area .now)) (holds (a .area .now)) (λ p ps. refl) _ _ _ _ _ (c .loop-test .left) (c .before .loop .inv))
 
 pub keys-differ-spec : {M : Type 1} → statement M
-keys-differ-spec =
-    tie.close
-    (tie.spec
-    Inv-loop
-    μ-loop
-    returns
-    loop-holds
-    sub-behind
-    sub-left
-    mul-at
-    add-at
-    key-slot-requires
-    array-read-key-apart
-    key-apart-requires
-    returns-2
-    array-write-marks
-    loop-less
-    loop-again
-    returns-3)
+keys-differ-spec = tie.close (tie.spec Inv-loop μ-loop returns loop-holds sub-behind (λ c. search needs) mul-at add-at key-slot-requires array-read-key-apart key-apart-requires returns-2 array-write-marks (λ c. omega arith) loop-again returns-3)

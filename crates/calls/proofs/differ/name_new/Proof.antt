@@ -60,12 +60,6 @@ add-at : tie.Need-add-at Inv-loop μ-loop
 unfolding pairWidth
 add-at c = omega (arith, c .before .before .before .loop .inv .0 .within)
 
-sub-left : tie.Need-sub-left Inv-loop μ-loop
-sub-left c = search needs
-
-loop-less : tie.Need-loop-less Inv-loop μ-loop
-loop-less c = omega arith
-
 loop-again : tie.Need-loop-again Inv-loop μ-loop
 unfolding pairWidth readPair namedIn textIn pairAt
 loop-again c =
@@ -84,16 +78,4 @@ returns-2 c =
     sym (c .before .loop .inv .1 ∙ ap (holds (a .area .now) (nameThere (a .area .now) (a .cells .now) (a .name))) (each-none pairWidth readPair _ _ (c .loop-test .left)))
 
 pub name-new-spec : {M : Type 1} → statement M
-name-new-spec =
-    tie.close
-    (tie.spec
-    Inv-loop
-    μ-loop
-    loop-holds
-    same-name-requires
-    returns
-    add-at
-    sub-left
-    loop-less
-    loop-again
-    returns-2)
+name-new-spec = tie.close (tie.spec Inv-loop μ-loop loop-holds same-name-requires returns add-at (λ c. search needs) (λ c. omega arith) loop-again returns-2)

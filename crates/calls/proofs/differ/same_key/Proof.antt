@@ -9,15 +9,6 @@ use Rattle.calls.proofs.LawsKeys.{payload-fits, sameRead-keys}
 use Rattle.calls.proofs.differ.same_key.Statement.{statement}
 use Rattle.calls.proofs.differ.same_key.Tie as tie
 
-key-at-requires : tie.Need-key-at-requires
-key-at-requires c κs = search needs
-
-key-at-requires-2 : tie.Need-key-at-requires-2
-key-at-requires-2 c κs = search needs
-
-same-read-requires : tie.Need-same-read-requires
-same-read-requires c κs = search needs
-
 returns : tie.Need-returns
 unfolding keyAt
 returns c =
@@ -34,4 +25,4 @@ returns c =
     (s .pre .1)
 
 pub same-key-spec : {M : Type 1} → statement M
-same-key-spec = tie.close (tie.spec key-at-requires key-at-requires-2 same-read-requires returns)
+same-key-spec = tie.close (tie.spec (λ c κs. search needs) (λ c κs. search needs) (λ c κs. search needs) returns)

@@ -32,24 +32,10 @@ returns c =
     let s = c .before .before .before .before .before in
     sym (names-apart _ _ (s .args .a) (s .args .b) (s .pre .0) (s .pre .1) (c .if1 .taken))
 
-same-text-requires : tie.Need-same-text-requires
-same-text-requires c κs = search needs
-
 returns-2 : tie.Need-returns-2
 returns-2 c =
     let s = c .before .before .before .before .before .before in
     c .same-text .ensures ∙ ap₂ sameBytes (name-bytes _ _ (s .args .a) (s .pre .0)) (name-bytes _ _ (s .args .b) (s .pre .1))
 
 pub same-name-spec : {M : Type 1} → statement M
-same-name-spec =
-    tie.close
-    (tie.spec
-    add-x
-    mul-x
-    shared-slice-read-x
-    add-y
-    mul-y
-    shared-slice-read-y
-    returns
-    same-text-requires
-    returns-2)
+same-name-spec = tie.close (tie.spec add-x mul-x shared-slice-read-x add-y mul-y shared-slice-read-y returns (λ c κs. search needs) returns-2)

@@ -7,19 +7,10 @@ use Rattle.calls.proofs.LawsCall.{kinds-by}
 use Rattle.calls.proofs.form.kinds_right.Statement.{statement}
 use Rattle.calls.proofs.form.kinds_right.Tie as tie
 
-read-head-requires : tie.Need-read-head-requires
-read-head-requires c κs = search needs
-
-kind-right-requires : tie.Need-kind-right-requires
-kind-right-requires c κs = search needs
-
 returns : tie.Need-returns
 returns c =
     let k = c .before in
     sym (kinds-by _ _ (k .before .read-head .ensures) ∙ rw (sym (k .kind-right .ensures) ∙ not-true _ (c .if1 .taken)))
-
-kind-right-requires-2 : tie.Need-kind-right-requires-2
-kind-right-requires-2 c κs = search needs
 
 returns-2 : tie.Need-returns-2
 returns-2 c =
@@ -28,11 +19,4 @@ returns-2 c =
     ∙ sym (kinds-by _ _ (k .before .read-head .ensures) ∙ rw (sym (k .kind-right .ensures) ∙ not-false _ (c .before .if1 .left)))
 
 pub kinds-right-spec : {M : Type 1} → statement M
-kinds-right-spec =
-    tie.close
-    (tie.spec
-    read-head-requires
-    kind-right-requires
-    returns
-    kind-right-requires-2
-    returns-2)
+kinds-right-spec = tie.close (tie.spec (λ c κs. search needs) (λ c κs. search needs) returns (λ c κs. search needs) returns-2)

@@ -11,12 +11,6 @@ use Rattle.calls.proofs.LawsCall.{few-bounds, lengths-by}
 use Rattle.calls.proofs.form.lengths_right.Statement.{statement}
 use Rattle.calls.proofs.form.lengths_right.Tie as tie
 
-read-head-requires : tie.Need-read-head-requires
-read-head-requires c κs = search needs
-
-few-requires : tie.Need-few-requires
-few-requires c κs = search needs
-
 returns : tie.Need-returns
 returns c =
     let f = c .before in
@@ -49,13 +43,4 @@ returns-2 c =
     ∙ rw (sym (i .before .few .ensures) ∙ not-false _ (i .if1 .left), c .before .entries-from .ensures))
 
 pub lengths-right-spec : {M : Type 1} → statement M
-lengths-right-spec =
-    tie.close
-    (tie.spec
-    read-head-requires
-    few-requires
-    returns
-    entries-from-requires
-    mul-result
-    add-result
-    returns-2)
+lengths-right-spec = tie.close (tie.spec (λ c κs. search needs) (λ c κs. search needs) returns entries-from-requires mul-result add-result returns-2)

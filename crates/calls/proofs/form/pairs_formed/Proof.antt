@@ -41,12 +41,6 @@ add-at : tie.Need-add-at Inv-loop μ-loop
 unfolding pairWidth
 add-at c = omega arith
 
-sub-left : tie.Need-sub-left Inv-loop μ-loop
-sub-left c = search needs
-
-loop-less : tie.Need-loop-less Inv-loop μ-loop
-loop-less c = omega arith
-
 loop-again : tie.Need-loop-again Inv-loop μ-loop
 unfolding pairWidth
 loop-again c =
@@ -62,16 +56,4 @@ returns-2 c =
     sym (c .before .loop .inv .1 ∙ ap (all (wellFormedPair (s .area .now))) (each-none pairWidth readPair _ _ (c .loop-test .left)))
 
 pub pairs-formed-spec : {M : Type 1} → statement M
-pairs-formed-spec =
-    tie.close
-    (tie.spec
-    Inv-loop
-    μ-loop
-    loop-holds
-    pair-formed-requires
-    returns
-    add-at
-    sub-left
-    loop-less
-    loop-again
-    returns-2)
+pairs-formed-spec = tie.close (tie.spec Inv-loop μ-loop loop-holds pair-formed-requires returns add-at (λ c. search needs) (λ c. omega arith) loop-again returns-2)

@@ -8,9 +8,6 @@ use Rattle.calls.proofs.LawsCall.{lengths-few, positionals-within, name
 use Rattle.calls.proofs.form.parts_formed.Statement.{statement}
 use Rattle.calls.proofs.form.parts_formed.Tie as tie
 
-read-head-requires : tie.Need-read-head-requires
-read-head-requires c κs = search needs
-
 values-formed-requires : tie.Need-values-formed-requires
 unfolding headWidth
 values-formed-requires c κs = positionals-within _ _ (c .read-head .ensures) 64 (c .before .before .before .pre)
@@ -105,18 +102,4 @@ returns-4 c =
     ))
 
 pub parts-formed-spec : {M : Type 1} → statement M
-parts-formed-spec =
-    tie.close
-    (tie.spec
-    read-head-requires
-    values-formed-requires
-    returns
-    named-from-requires
-    pairs-formed-requires
-    returns-2
-    items-from-requires
-    values-formed-requires-2
-    returns-3
-    entries-from-requires
-    entries-formed-requires
-    returns-4)
+parts-formed-spec = tie.close (tie.spec (λ c κs. search needs) values-formed-requires returns named-from-requires pairs-formed-requires returns-2 items-from-requires values-formed-requires-2 returns-3 entries-from-requires entries-formed-requires returns-4)

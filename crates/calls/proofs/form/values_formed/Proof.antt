@@ -41,12 +41,6 @@ add-at : tie.Need-add-at Inv-loop μ-loop
 unfolding valueWidth
 add-at c = omega arith
 
-sub-left : tie.Need-sub-left Inv-loop μ-loop
-sub-left c = search needs
-
-loop-less : tie.Need-loop-less Inv-loop μ-loop
-loop-less c = omega arith
-
 loop-again : tie.Need-loop-again Inv-loop μ-loop
 unfolding valueWidth pairAt
 loop-again c =
@@ -62,16 +56,4 @@ returns-2 c =
     sym (c .before .loop .inv .1 ∙ ap (all (wellFormedArgument (s .area .now))) (each-none valueWidth readValue _ _ (c .loop-test .left)))
 
 pub values-formed-spec : {M : Type 1} → statement M
-values-formed-spec =
-    tie.close
-    (tie.spec
-    Inv-loop
-    μ-loop
-    loop-holds
-    value-formed-requires
-    returns
-    add-at
-    sub-left
-    loop-less
-    loop-again
-    returns-2)
+values-formed-spec = tie.close (tie.spec Inv-loop μ-loop loop-holds value-formed-requires returns add-at (λ c. search needs) (λ c. omega arith) loop-again returns-2)

@@ -8,21 +8,9 @@ use Rattle.calls.specs.Head.{namedFrom, itemsFrom}
 use Rattle.calls.proofs.head.items_from.Statement.{statement}
 use Rattle.calls.proofs.head.items_from.Tie as tie
 
-mul-result : tie.Need-mul-result
-mul-result c = search needs
-
-add-result : tie.Need-add-result
-add-result c = search needs
-
-mul-result-2 : tie.Need-mul-result-2
-mul-result-2 c = search needs
-
-add-result-2 : tie.Need-add-result-2
-add-result-2 c = search needs
-
 returns : tie.Need-returns
 unfolding itemsFrom namedFrom headWidth valueWidth pairWidth
 returns c = refl
 
 pub items-from-spec : {M : Type 1} → statement M
-items-from-spec = tie.close (tie.spec mul-result add-result mul-result-2 add-result-2 returns)
+items-from-spec = tie.close (tie.spec (λ c. search needs) (λ c. search needs) (λ c. search needs) (λ c. search needs) returns)

@@ -8,15 +8,9 @@ use Rattle.calls.specs.Head.{namedFrom}
 use Rattle.calls.proofs.head.named_from.Statement.{statement}
 use Rattle.calls.proofs.head.named_from.Tie as tie
 
-mul-result : tie.Need-mul-result
-mul-result c = search needs
-
-add-result : tie.Need-add-result
-add-result c = search needs
-
 returns : tie.Need-returns
 unfolding namedFrom headWidth valueWidth
 returns c = refl
 
 pub named-from-spec : {M : Type 1} → statement M
-named-from-spec = tie.close (tie.spec mul-result add-result returns)
+named-from-spec = tie.close (tie.spec (λ c. search needs) (λ c. search needs) returns)

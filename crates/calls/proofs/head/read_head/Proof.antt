@@ -5,24 +5,6 @@ use Rattle.rules.specs.CallRecord.{readHead}
 use Rattle.calls.proofs.head.read_head.Statement.{statement}
 use Rattle.calls.proofs.head.read_head.Tie as tie
 
-cell-requires : tie.Need-cell-requires
-cell-requires c κs = search needs
-
-cell-requires-2 : tie.Need-cell-requires-2
-cell-requires-2 c κs = search needs
-
-cell-requires-3 : tie.Need-cell-requires-3
-cell-requires-3 c κs = search needs
-
-cell-requires-4 : tie.Need-cell-requires-4
-cell-requires-4 c κs = search needs
-
-cell-requires-5 : tie.Need-cell-requires-5
-cell-requires-5 c κs = search needs
-
-cell-requires-6 : tie.Need-cell-requires-6
-cell-requires-6 c κs = search needs
-
 returns : tie.Need-returns
 unfolding readHead
 returns c =
@@ -33,13 +15,4 @@ returns c =
     rw (c .cell6 .ensures, b1 .cell5 .ensures, b2 .cell4 .ensures, b3 .cell3 .ensures, b4 .cell2 .ensures, b4 .before .cell .ensures)
 
 pub read-head-spec : {M : Type 1} → statement M
-read-head-spec =
-    tie.close
-    (tie.spec
-    cell-requires
-    cell-requires-2
-    cell-requires-3
-    cell-requires-4
-    cell-requires-5
-    cell-requires-6
-    returns)
+read-head-spec = tie.close (tie.spec (λ c κs. search needs) (λ c κs. search needs) (λ c κs. search needs) (λ c κs. search needs) (λ c κs. search needs) (λ c κs. search needs) returns)

@@ -23,9 +23,6 @@ returns : tie.Need-returns
 unfolding inRuns
 returns c = rw (lt-ltb _ _ (c .if1 .taken))
 
-add-if2 : tie.Need-add-if2
-add-if2 c = search needs
-
 mul-result-2 : tie.Need-mul-result-2
 mul-result-2 c =
     let s = c .before .before in
@@ -47,14 +44,4 @@ unfolding inRuns
 returns-3 c = rw (le-ltb _ _ (c .before .if1 .left), le-ltb _ _ (c .if2 .left))
 
 pub in-runs-spec : {M : Type 1} → statement M
-in-runs-spec =
-    tie.close
-    (tie.spec
-    mul-result
-    add-result
-    returns
-    add-if2
-    mul-result-2
-    add-result-2
-    returns-2
-    returns-3)
+in-runs-spec = tie.close (tie.spec mul-result add-result returns (λ c. search needs) mul-result-2 add-result-2 returns-2 returns-3)

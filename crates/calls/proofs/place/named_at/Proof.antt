@@ -12,9 +12,6 @@ use Rattle.calls.proofs.LawsCall.{few-bounds}
 use Rattle.calls.proofs.place.named_at.Statement.{statement}
 use Rattle.calls.proofs.place.named_at.Tie as tie
 
-few-requires : tie.Need-few-requires
-few-requires c κs = search needs
-
 returns : tie.Need-returns
 unfolding namedAt
 returns c = rw (sym (c .before .few .ensures) ∙ not-true _ (c .if1 .taken))
@@ -43,12 +40,4 @@ returns-2 c =
     ∙ sym (rw (sym (i .before .few .ensures) ∙ not-false _ (i .if1 .left), sym (n .named-from .ensures), sym (e .entries-from .ensures)))
 
 pub named-at-spec : {M : Type 1} → statement M
-named-at-spec =
-    tie.close
-    (tie.spec
-    few-requires
-    returns
-    named-from-requires
-    entries-from-requires
-    in-runs-requires
-    returns-2)
+named-at-spec = tie.close (tie.spec (λ c κs. search needs) returns named-from-requires entries-from-requires in-runs-requires returns-2)

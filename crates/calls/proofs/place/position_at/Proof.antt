@@ -12,9 +12,6 @@ use Rattle.calls.proofs.LawsCall.{few-bounds}
 use Rattle.calls.proofs.place.position_at.Statement.{statement}
 use Rattle.calls.proofs.place.position_at.Tie as tie
 
-few-requires : tie.Need-few-requires
-few-requires c κs = search needs
-
 returns : tie.Need-returns
 unfolding positionAt
 returns c = rw (sym (c .before .few .ensures) ∙ not-true _ (c .if1 .taken))
@@ -37,4 +34,4 @@ returns-2 c =
     c .in-runs .ensures ∙ sym (rw (sym (i .before .few .ensures) ∙ not-false _ (i .if1 .left), sym (r .items-from .ensures)))
 
 pub position-at-spec : {M : Type 1} → statement M
-position-at-spec = tie.close (tie.spec few-requires returns items-from-requires in-runs-requires returns-2)
+position-at-spec = tie.close (tie.spec (λ c κs. search needs) returns items-from-requires in-runs-requires returns-2)

@@ -7,9 +7,6 @@ use borrow.Author.Needs.{needs}
 use Rattle.calls.proofs.slot.key_slot.Statement.{statement}
 use Rattle.calls.proofs.slot.key_slot.Tie as tie
 
-pair-at-requires : tie.Need-pair-at-requires
-pair-at-requires c κs = search needs
-
 slot-of-requires : tie.Need-slot-of-requires
 slot-of-requires c κs =
     let x = c .before .before in
@@ -30,4 +27,4 @@ returns-2 c =
     slot-number _ _ _ _ (ap (λ (v : Value). v .kind) (x .pair-at .ensures)) (ap (λ (v : Value). v .payload) (x .pair-at .ensures)) (c .if1 .left)
 
 pub key-slot-spec : {M : Type 1} → statement M
-key-slot-spec = tie.close (tie.spec pair-at-requires slot-of-requires returns returns-2)
+key-slot-spec = tie.close (tie.spec (λ c κs. search needs) slot-of-requires returns returns-2)

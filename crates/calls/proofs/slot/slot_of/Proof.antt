@@ -7,12 +7,9 @@ use Rattle.calls.specs.Slots.{slots, slotOf}
 use Rattle.calls.proofs.slot.slot_of.Statement.{statement}
 use Rattle.calls.proofs.slot.slot_of.Tie as tie
 
-last-key-requires : tie.Need-last-key-requires
-last-key-requires c κs = search needs
-
 returns : tie.Need-returns
 unfolding slotOf slots
 returns c = ap (λ key. key % 929) (c .last-key .ensures)
 
 pub slot-of-spec : {M : Type 1} → statement M
-slot-of-spec = tie.close (tie.spec last-key-requires returns)
+slot-of-spec = tie.close (tie.spec (λ c κs. search needs) returns)

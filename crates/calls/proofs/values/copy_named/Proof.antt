@@ -27,48 +27,6 @@ abbrev μ-loop : tie.MeasureT-loop
 loop-holds : tie.Need-loop-holds Inv-loop μ-loop
 loop-holds c = (search needs, refl, sym (stored-none (c .before .before .args .board .now) (c .before .before .args .at) (omega (arith, c .before .before .pre .2))))
 
-mul-value : tie.Need-mul-value Inv-loop μ-loop
-mul-value c = search needs
-
-add-value : tie.Need-add-value Inv-loop μ-loop
-add-value c = search needs
-
-add-value-2 : tie.Need-add-value-2 Inv-loop μ-loop
-add-value-2 c = search needs
-
-mul-put-inside : tie.Need-mul-put-inside Inv-loop μ-loop
-mul-put-inside c = search needs
-
-add-put-inside : tie.Need-add-put-inside Inv-loop μ-loop
-add-put-inside c = search needs
-
-mul-new : tie.Need-mul-new Inv-loop μ-loop
-mul-new c = search needs
-
-shared-slice-read-new : tie.Need-shared-slice-read-new Inv-loop μ-loop
-shared-slice-read-new c = search needs
-
-add-new : tie.Need-add-new Inv-loop μ-loop
-add-new c = search needs
-
-mul-new-2 : tie.Need-mul-new-2 Inv-loop μ-loop
-mul-new-2 c = search needs
-
-shared-slice-read-new-2 : tie.Need-shared-slice-read-new-2 Inv-loop μ-loop
-shared-slice-read-new-2 c = search needs
-
-new-requires : tie.Need-new-requires Inv-loop μ-loop
-new-requires c κs = search needs
-
-put-inside-requires : tie.Need-put-inside-requires Inv-loop μ-loop
-put-inside-requires c κs = search needs
-
-add-k : tie.Need-add-k Inv-loop μ-loop
-add-k c = search needs
-
-loop-less : tie.Need-loop-less Inv-loop μ-loop
-loop-less c = search needs
-
 loop-again : tie.Need-loop-again Inv-loop μ-loop
 loop-again c =
     let start = c .before .before .before .before .before .before .before .before .before .before .before in
@@ -93,26 +51,4 @@ returns c =
     subst (λ n. at .board ≡ stored (a .board .now) (a .at) (writeEach valueCells (listed (λ j. pairAt (a .cells .now) (a .from + 4 * j + 2)) 0 n))) whole (at .inv .2)
 
 pub copy-named-spec : {M : Type 1} → statement M
-copy-named-spec =
-    tie.close
-    (tie.spec
-    Inv-loop
-    μ-loop
-    loop-holds
-    mul-value
-    add-value
-    add-value-2
-    mul-put-inside
-    add-put-inside
-    mul-new
-    shared-slice-read-new
-    add-new
-    mul-new-2
-    shared-slice-read-new-2
-    new-requires
-    put-inside-requires
-    add-k
-    loop-less
-    loop-again
-    same-length
-    returns)
+copy-named-spec = tie.close (tie.spec Inv-loop μ-loop loop-holds (λ c. search needs) (λ c. search needs) (λ c. search needs) (λ c. search needs) (λ c. search needs) (λ c. search needs) (λ c. search needs) (λ c. search needs) (λ c. search needs) (λ c. search needs) (λ c κs. search needs) (λ c κs. search needs) (λ c. search needs) (λ c. search needs) loop-again same-length returns)

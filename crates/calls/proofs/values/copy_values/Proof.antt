@@ -18,35 +18,8 @@ Inv-loop cells from count at board₀ end k₀ board k = (k ≤ end) × (length 
 abbrev μ-loop : tie.MeasureT-loop
 μ-loop cells from count at board₀ end k₀ board k = end - k
 
-mul-end : tie.Need-mul-end Inv-loop μ-loop
-mul-end c = search needs
-
 loop-holds : tie.Need-loop-holds Inv-loop μ-loop
 loop-holds c = (search needs, refl, sym (stored-none (c .args .board .now) (c .args .at) (omega (arith, c .pre .2))))
-
-add-board : tie.Need-add-board Inv-loop μ-loop
-add-board c = search needs
-
-mul-board : tie.Need-mul-board Inv-loop μ-loop
-mul-board c = search needs
-
-shared-slice-read-board : tie.Need-shared-slice-read-board Inv-loop μ-loop
-shared-slice-read-board c = search needs
-
-add-board-2 : tie.Need-add-board-2 Inv-loop μ-loop
-add-board-2 c = search needs
-
-mul-board-2 : tie.Need-mul-board-2 Inv-loop μ-loop
-mul-board-2 c = search needs
-
-slice-write-board : tie.Need-slice-write-board Inv-loop μ-loop
-slice-write-board c = search needs
-
-add-k : tie.Need-add-k Inv-loop μ-loop
-add-k c = search needs
-
-loop-less : tie.Need-loop-less Inv-loop μ-loop
-loop-less c = search needs
 
 loop-again : tie.Need-loop-again Inv-loop μ-loop
 loop-again c =
@@ -69,21 +42,4 @@ returns c =
     at .inv .2 ∙ ap (stored (a .board .now) (a .at)) (take-all (at .k) (take (2 * a .count) run) (rw (length-take (2 * a .count) run) (omega arith)))
 
 pub copy-values-spec : {M : Type 1} → statement M
-copy-values-spec =
-    tie.close
-    (tie.spec
-    Inv-loop
-    μ-loop
-    mul-end
-    loop-holds
-    add-board
-    mul-board
-    shared-slice-read-board
-    add-board-2
-    mul-board-2
-    slice-write-board
-    add-k
-    loop-less
-    loop-again
-    same-length
-    returns)
+copy-values-spec = tie.close (tie.spec Inv-loop μ-loop (λ c. search needs) loop-holds (λ c. search needs) (λ c. search needs) (λ c. search needs) (λ c. search needs) (λ c. search needs) (λ c. search needs) (λ c. search needs) (λ c. search needs) loop-again same-length returns)

@@ -13,9 +13,6 @@ copy-values-requires c κs =
     let start = c .before .before .before in
     (start .pre .0 .few-p, omega (arith, start .pre .1), omega (arith, start .pre .2))
 
-same-length : tie.Need-same-length
-same-length c = search needs
-
 returns : tie.Need-returns
 returns c =
     let start = c .before .before .before .before .before .before in
@@ -23,4 +20,4 @@ returns c =
     c .before .before .copy-values .ensures ∙ ap (stored (a .board .now) 0) (sym (written-cells (a .cells .now) (headOf (a .h)) (start .pre .0) (start .pre .1)))
 
 pub copy-written-spec : {M : Type 1} → statement M
-copy-written-spec = tie.close (tie.spec copy-values-requires same-length returns)
+copy-written-spec = tie.close (tie.spec copy-values-requires (λ c. search needs) returns)

@@ -23,30 +23,6 @@ abbrev μ-loop : tie.MeasureT-loop
 loop-holds : tie.Need-loop-holds Inv-loop μ-loop
 loop-holds c = (search needs, refl, sym (stored-none (c .before .before .args .board .now) (c .before .before .args .at) (omega (arith, c .before .before .pre .1))))
 
-add-position-at : tie.Need-add-position-at Inv-loop μ-loop
-add-position-at c = search needs
-
-position-at-requires : tie.Need-position-at-requires Inv-loop μ-loop
-position-at-requires c κs = search needs
-
-mul-put-inside : tie.Need-mul-put-inside Inv-loop μ-loop
-mul-put-inside c = search needs
-
-add-put-inside : tie.Need-add-put-inside Inv-loop μ-loop
-add-put-inside c = search needs
-
-pair-at-requires : tie.Need-pair-at-requires Inv-loop μ-loop
-pair-at-requires c κs = search needs
-
-put-inside-requires : tie.Need-put-inside-requires Inv-loop μ-loop
-put-inside-requires c κs = search needs
-
-add-k : tie.Need-add-k Inv-loop μ-loop
-add-k c = search needs
-
-loop-less : tie.Need-loop-less Inv-loop μ-loop
-loop-less c = omega arith
-
 loop-again : tie.Need-loop-again Inv-loop μ-loop
 unfolding positionalAt
 loop-again c =
@@ -71,20 +47,4 @@ returns c =
     subst (λ n. at .board ≡ stored (a .board .now) (a .at) (writeEach valueCells (valuesIn (a .cells .now) (headOf (a .h)) (a .from) n))) whole (at .inv .2)
 
 pub write-values-spec : {M : Type 1} → statement M
-write-values-spec =
-    tie.close
-    (tie.spec
-    Inv-loop
-    μ-loop
-    loop-holds
-    add-position-at
-    position-at-requires
-    mul-put-inside
-    add-put-inside
-    pair-at-requires
-    put-inside-requires
-    add-k
-    loop-less
-    loop-again
-    same-length
-    returns)
+write-values-spec = tie.close (tie.spec Inv-loop μ-loop loop-holds (λ c. search needs) (λ c κs. search needs) (λ c. search needs) (λ c. search needs) (λ c κs. search needs) (λ c κs. search needs) (λ c. search needs) (λ c. omega arith) loop-again same-length returns)

@@ -7,23 +7,11 @@ use Rattle.cells.proofs.LawsWord.{front-shift, key-whole, key-none}
 use Rattle.cells.proofs.key.first_key.Statement.{statement}
 use Rattle.cells.proofs.key.first_key.Tie as tie
 
-word-at-requires : tie.Need-word-at-requires
-word-at-requires c κs = search needs
-
 returns : tie.Need-returns
 returns c = c .before .word-at .ensures .key ∙ key-whole _ _ (c .if1 .taken)
 
 returns-2 : tie.Need-returns-2
 returns-2 c = key-none _ _ (c .if2 .taken)
-
-mul-result : tie.Need-mul-result
-mul-result c = search needs
-
-sub-result : tie.Need-sub-result
-sub-result c = search needs
-
-shr-result : tie.Need-shr-result
-shr-result c = search needs
 
 returns-3 : tie.Need-returns-3
 returns-3 c =
@@ -32,6 +20,4 @@ returns-3 c =
     front-shift _ _ (word .word-at .ensures) (rw (length-drop (a .start) (a .area .now)) (omega (arith, word .before .before .pre))) (a .len) (omega (arith, c .before .if1 .left))
 
 pub first-key-spec : {M : Type 1} → statement M
-first-key-spec =
-    tie.close
-    (tie.spec word-at-requires returns returns-2 mul-result sub-result shr-result returns-3)
+first-key-spec = tie.close (tie.spec (λ c κs. search needs) returns returns-2 (λ c. search needs) (λ c. search needs) (λ c. search needs) returns-3)

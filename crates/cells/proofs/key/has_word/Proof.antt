@@ -9,12 +9,9 @@ use Rattle.cells.proofs.key.has_word.Tie as tie
 returns : tie.Need-returns
 returns c = λ e. absurd (false≢true e)
 
-add-result : tie.Need-add-result
-add-result c = search needs
-
 returns-2 : tie.Need-returns-2
 unfolding startOf
 returns-2 c = let low = c .if1 .left in λ e. record { low = low; room = leb-true _ _ e }
 
 pub has-word-spec : {M : Type 1} → statement M
-has-word-spec = tie.close (tie.spec returns add-result returns-2)
+has-word-spec = tie.close (tie.spec returns (λ c. search needs) returns-2)

@@ -9,15 +9,6 @@ use Rattle.cells.proofs.LawsWord.{within, last-begin, last-word, last-r
 use Rattle.cells.proofs.key.last_key.Statement.{statement}
 use Rattle.cells.proofs.key.last_key.Tie as tie
 
-add-end : tie.Need-add-end
-add-end c = search needs
-
-part-requires : tie.Need-part-requires
-part-requires c κs = search needs
-
-key-of-requires : tie.Need-key-of-requires
-key-of-requires c κs = search needs
-
 returns : tie.Need-returns
 returns c =
     let parted = c .before in
@@ -35,12 +26,6 @@ returns-2 c =
     let a = start .args in
     last-word (a .area .now) (a .payload / 256) (a .payload % 256) _ (within (a .area .now) (a .payload) (start .pre)) (c .before .before .if1 .left) (c .before .word-at .ensures) (c .if2 .taken)
 
-mul-result : tie.Need-mul-result
-mul-result c = search needs
-
-shl-result : tie.Need-shl-result
-shl-result c = search needs
-
 rem-result : tie.Need-rem-result
 rem-result c = some-modulus _ (c .if2 .left)
 
@@ -52,16 +37,4 @@ returns-3 c =
     last-rem (a .area .now) (a .payload / 256) (a .payload % 256) _ (within (a .area .now) (a .payload) (start .pre)) (c .before .before .if1 .left) (c .before .word-at .ensures) (c .if2 .left)
 
 pub last-key-spec : {M : Type 1} → statement M
-last-key-spec =
-    tie.close
-    (tie.spec
-    add-end
-    part-requires
-    key-of-requires
-    returns
-    word-at-requires
-    returns-2
-    mul-result
-    shl-result
-    rem-result
-    returns-3)
+last-key-spec = tie.close (tie.spec (λ c. search needs) (λ c κs. search needs) (λ c κs. search needs) returns word-at-requires returns-2 (λ c. search needs) (λ c. search needs) rem-result returns-3)

@@ -6,24 +6,6 @@ use Rattle.cells.proofs.LawsWord.{shifts-same}
 use Rattle.cells.proofs.key.same_bytes.Statement.{statement}
 use Rattle.cells.proofs.key.same_bytes.Tie as tie
 
-word-at-requires : tie.Need-word-at-requires
-word-at-requires c κs = search needs
-
-word-at-requires-2 : tie.Need-word-at-requires-2
-word-at-requires-2 c κs = search needs
-
-mul-behind : tie.Need-mul-behind
-mul-behind c = search needs
-
-sub-behind : tie.Need-sub-behind
-sub-behind c = search needs
-
-shr-result : tie.Need-shr-result
-shr-result c = search needs
-
-shr-result-2 : tie.Need-shr-result-2
-shr-result-2 c = search needs
-
 returns : tie.Need-returns
 returns c =
     let first = c .before in
@@ -35,13 +17,4 @@ returns c =
     (a .len) (start .pre .3)
 
 pub same-bytes-spec : {M : Type 1} → statement M
-same-bytes-spec =
-    tie.close
-    (tie.spec
-    word-at-requires
-    word-at-requires-2
-    mul-behind
-    sub-behind
-    shr-result
-    shr-result-2
-    returns)
+same-bytes-spec = tie.close (tie.spec (λ c κs. search needs) (λ c κs. search needs) (λ c. search needs) (λ c. search needs) (λ c. search needs) (λ c. search needs) returns)

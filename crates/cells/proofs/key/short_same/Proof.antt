@@ -21,14 +21,8 @@ returns-2 c = λ e. absurd (false≢true e)
 returns-3 : tie.Need-returns-3
 returns-3 c = λ e. absurd (false≢true e)
 
-has-word-requires : tie.Need-has-word-requires
-has-word-requires c κs = search needs
-
 returns-4 : tie.Need-returns-4
 returns-4 c = λ e. absurd (false≢true e)
-
-has-word-requires-2 : tie.Need-has-word-requires-2
-has-word-requires-2 c κs = search needs
 
 returns-5 : tie.Need-returns-5
 returns-5 c = λ e. absurd (false≢true e)
@@ -71,15 +65,4 @@ returns-6 c =
     }
 
 pub short-same-spec : {M : Type 1} → statement M
-short-same-spec =
-    tie.close
-    (tie.spec
-    returns
-    returns-2
-    returns-3
-    has-word-requires
-    returns-4
-    has-word-requires-2
-    returns-5
-    same-bytes-requires
-    returns-6)
+short-same-spec = tie.close (tie.spec returns returns-2 returns-3 (λ c κs. search needs) returns-4 (λ c κs. search needs) returns-5 same-bytes-requires returns-6)

@@ -24,12 +24,6 @@ loop-holds c = (key-start _, λ h. absurd (omega arith))
 mul-word : tie.Need-mul-word Inv-loop μ-loop
 mul-word c = let at = c .before .loop in omega (arith, key-room _ (at .word) (at .i) (at .inv .0) (c .loop-test .taken))
 
-add-word : tie.Need-add-word Inv-loop μ-loop
-add-word c = search needs
-
-shared-slice-read-word : tie.Need-shared-slice-read-word Inv-loop μ-loop
-shared-slice-read-word c = search needs
-
 -- the byte that is read
 byte : (c : tie.After-shared-slice-known Inv-loop μ-loop) → let a = c .before .before .before .args in getD (a .area .now) (a .at + c .before .before .loop .i) 0 < 256
 byte c = omega (arith, c .shared-slice-known .given (c .before .before .before .args .at + c .before .before .loop .i))
@@ -39,12 +33,6 @@ cast-word c = omega (arith, byte c)
 
 add-word-2 : tie.Need-add-word-2 Inv-loop μ-loop
 add-word-2 c = let at = c .before .before .loop in omega (arith, key-room _ (at .word) (at .i) (at .inv .0) (c .before .loop-test .taken), byte c)
-
-add-i : tie.Need-add-i Inv-loop μ-loop
-add-i c = search needs
-
-loop-less : tie.Need-loop-less Inv-loop μ-loop
-loop-less c = search needs
 
 loop-again : tie.Need-loop-again Inv-loop μ-loop
 loop-again c =
@@ -57,18 +45,4 @@ returns : tie.Need-returns Inv-loop μ-loop
 returns c = let at = c .before .loop in record { key = key-end _ (at .word) (at .i) (at .inv .0) (inl (c .loop-test .left)); byte = at .inv .1 (omega (arith, c .loop-test .left)) }
 
 pub word-at-spec : {M : Type 1} → statement M
-word-at-spec =
-    tie.close
-    (tie.spec
-    Inv-loop
-    μ-loop
-    loop-holds
-    mul-word
-    add-word
-    shared-slice-read-word
-    cast-word
-    add-word-2
-    add-i
-    loop-less
-    loop-again
-    returns)
+word-at-spec = tie.close (tie.spec Inv-loop μ-loop loop-holds mul-word (λ c. search needs) (λ c. search needs) cast-word add-word-2 (λ c. search needs) (λ c. search needs) loop-again returns)

@@ -14,21 +14,9 @@ returns : tie.Need-returns
 unfolding stored valueCells
 returns c = let s = c .before .before .args in rw (lt-leb (s .at + 2) (length (s .out .now)) (omega arith))
 
-sub-if2 : tie.Need-sub-if2
-sub-if2 c = search needs
-
 returns-2 : tie.Need-returns-2
 unfolding stored valueCells
 returns-2 c = let s = c .before .before .before .args in rw (lt-leb (s .at + 2) (length (s .out .now)) (omega arith))
 
-put-inside-requires : tie.Need-put-inside-requires
-put-inside-requires c κs = search needs
-
-same-length : tie.Need-same-length
-same-length c = search needs
-
-returns-3 : tie.Need-returns-3
-returns-3 c = search needs
-
 pub put-spec : {M : Type 1} → statement M
-put-spec = tie.close (tie.spec returns sub-if2 returns-2 put-inside-requires same-length returns-3)
+put-spec = tie.close (tie.spec returns (λ c. search needs) returns-2 (λ c κs. search needs) (λ c. search needs) (λ c. search needs))

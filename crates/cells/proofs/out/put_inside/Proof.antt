@@ -13,23 +13,8 @@ use Rattle.cells.specs.Out.{stored}
 use Rattle.cells.proofs.out.put_inside.Statement.{statement}
 use Rattle.cells.proofs.out.put_inside.Tie as tie
 
-mul-out : tie.Need-mul-out
-mul-out c = search needs
-
-slice-write-out : tie.Need-slice-write-out
-slice-write-out c = search needs
-
-add-out : tie.Need-add-out
-add-out c = search needs
-
-mul-out-2 : tie.Need-mul-out-2
-mul-out-2 c = search needs
-
 slice-write-out-2 : tie.Need-slice-write-out-2
 slice-write-out-2 c = simp length-set (omega arith)
-
-same-length : tie.Need-same-length
-same-length c = search needs
 
 returns : tie.Need-returns
 unfolding stored valueCells
@@ -38,6 +23,4 @@ returns c =
     rw (le-leb (s .at + 2) (length (s .out .now)) (omega arith), add-one) (sets-eq (s .pair .kind ∷ s .pair .payload ∷ []) (s .out .now) (s .at) (omega arith))
 
 pub put-inside-spec : {M : Type 1} → statement M
-put-inside-spec =
-    tie.close
-    (tie.spec mul-out slice-write-out add-out mul-out-2 slice-write-out-2 same-length returns)
+put-inside-spec = tie.close (tie.spec (λ c. search needs) (λ c. search needs) (λ c. search needs) (λ c. search needs) slice-write-out-2 (λ c. search needs) returns)

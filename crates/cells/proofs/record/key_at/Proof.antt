@@ -8,12 +8,6 @@ use Rattle.cells.specs.Value.{readKey}
 use Rattle.cells.proofs.record.key_at.Statement.{statement}
 use Rattle.cells.proofs.record.key_at.Tie as tie
 
-pair-at-requires : tie.Need-pair-at-requires
-pair-at-requires c κs = search needs
-
-read-key-requires : tie.Need-read-key-requires
-read-key-requires c κs = search needs
-
 returns : tie.Need-returns
 unfolding keyAt
 returns c =
@@ -21,4 +15,4 @@ returns c =
     c .read-key .ensures ∙ ap (λ (v : rules.Value). readKey (s .args .area .now) (v .kind) (v .payload)) (c .before .pair-at .ensures)
 
 pub key-at-spec : {M : Type 1} → statement M
-key-at-spec = tie.close (tie.spec pair-at-requires read-key-requires returns)
+key-at-spec = tie.close (tie.spec (λ c κs. search needs) (λ c κs. search needs) returns)

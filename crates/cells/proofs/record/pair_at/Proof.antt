@@ -8,28 +8,10 @@ use Rattle.cells.proofs.LawsRecord.{pairAt-is, pairAt-past}
 use Rattle.cells.proofs.record.pair_at.Statement.{statement}
 use Rattle.cells.proofs.record.pair_at.Tie as tie
 
-mul-new : tie.Need-mul-new
-mul-new c = search needs
-
-shared-slice-read-new : tie.Need-shared-slice-read-new
-shared-slice-read-new c = search needs
-
-add-cell : tie.Need-add-cell
-add-cell c = search needs
-
-cell-requires : tie.Need-cell-requires
-cell-requires c κs = search needs
-
-new-requires : tie.Need-new-requires
-new-requires c κs = search needs
-
 returns : tie.Need-returns
 returns c =
     let s = c .before .before .before .before .before .args in
     ap pairOf (c .new .ensures ∙ ap (pair (getD (s .cells .now) (s .at) 0)) (c .before .cell .ensures)) ∙ sym (pairAt-is (s .cells .now) (s .at))
-
-new-requires-2 : tie.Need-new-requires-2
-new-requires-2 c κs = search needs
 
 returns-2 : tie.Need-returns-2
 returns-2 c =
@@ -37,14 +19,4 @@ returns-2 c =
     ap pairOf (c .new2 .ensures) ∙ sym (pairAt-past (s .cells .now) (s .at) (c .before .if1 .left))
 
 pub pair-at-spec : {M : Type 1} → statement M
-pair-at-spec =
-    tie.close
-    (tie.spec
-    mul-new
-    shared-slice-read-new
-    add-cell
-    cell-requires
-    new-requires
-    returns
-    new-requires-2
-    returns-2)
+pair-at-spec = tie.close (tie.spec (λ c. search needs) (λ c. search needs) (λ c. search needs) (λ c κs. search needs) (λ c κs. search needs) returns (λ c κs. search needs) returns-2)

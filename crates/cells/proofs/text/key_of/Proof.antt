@@ -27,9 +27,6 @@ mul-key c =
     let h : at .i < 8 = omega (arith, at .inv .few, c .if1 .left) in
     omega (arith, key-room _ (at .key) (at .i) (at .inv) h)
 
-shared-slice-read-key : tie.Need-shared-slice-read-key Inv-loop μ-loop
-shared-slice-read-key c = search needs
-
 cast-key : tie.Need-cast-key Inv-loop μ-loop
 cast-key c = omega (arith, c .shared-slice-known .given (c .before .before .before .loop .i))
 
@@ -38,12 +35,6 @@ add-key c =
     let at = c .before .before .before .loop in
     let h : at .i < 8 = omega (arith, at .inv .few, c .before .if1 .left) in
     omega (arith, key-room _ (at .key) (at .i) (at .inv) h, c .shared-slice-known .given (at .i))
-
-add-i : tie.Need-add-i Inv-loop μ-loop
-add-i c = search needs
-
-loop-less : tie.Need-loop-less Inv-loop μ-loop
-loop-less c = search needs
 
 loop-again : tie.Need-loop-again Inv-loop μ-loop
 loop-again c =
@@ -54,18 +45,4 @@ returns-2 : tie.Need-returns-2 Inv-loop μ-loop
 returns-2 c = let at = c .before .loop in key-end _ (at .key) (at .i) (at .inv) (inr (c .loop-test .left))
 
 pub key-of-spec : {M : Type 1} → statement M
-key-of-spec =
-    tie.close
-    (tie.spec
-    Inv-loop
-    μ-loop
-    loop-holds
-    returns
-    mul-key
-    shared-slice-read-key
-    cast-key
-    add-key
-    add-i
-    loop-less
-    loop-again
-    returns-2)
+key-of-spec = tie.close (tie.spec Inv-loop μ-loop loop-holds returns mul-key (λ c. search needs) cast-key add-key (λ c. search needs) (λ c. search needs) loop-again returns-2)

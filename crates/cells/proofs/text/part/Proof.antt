@@ -8,50 +8,17 @@ use Rattle.cells.specs.Text.{partAt}
 use Rattle.cells.proofs.text.part.Statement.{statement}
 use Rattle.cells.proofs.text.part.Tie as tie
 
-slice-aggregate-result : tie.Need-slice-aggregate-result
-slice-aggregate-result c = search needs
-
 returns : tie.Need-returns
 unfolding partAt inside startOf
 returns c = simp (lt-leb _ _ (c .before .if1 .taken))
 
-add-if2 : tie.Need-add-if2
-add-if2 c = search needs
-
-slice-aggregate-result-2 : tie.Need-slice-aggregate-result-2
-slice-aggregate-result-2 c = search needs
-
 returns-2 : tie.Need-returns-2
 unfolding partAt inside startOf sizeOf
 returns-2 c = simp (le-leb _ _ (c .before .before .if1 .left), lt-leb _ _ (c .before .if2 .taken))
-
-add-end : tie.Need-add-end
-add-end c = search needs
-
-sub-result : tie.Need-sub-result
-sub-result c = search needs
-
-part-result-start : tie.Need-part-result-start
-part-result-start c = search needs
-
-part-result-end : tie.Need-part-result-end
-part-result-end c = search needs
 
 returns-3 : tie.Need-returns-3
 unfolding partAt inside bytesAt startOf sizeOf
 returns-3 c = simp (le-leb _ _ (c .before .before .if1 .left), le-leb _ _ (c .before .if2 .left), add-sub-cancel-left)
 
 pub part-spec : {M : Type 1} → statement M
-part-spec =
-    tie.close
-    (tie.spec
-    slice-aggregate-result
-    returns
-    add-if2
-    slice-aggregate-result-2
-    returns-2
-    add-end
-    sub-result
-    part-result-start
-    part-result-end
-    returns-3)
+part-spec = tie.close (tie.spec (λ c. search needs) returns (λ c. search needs) (λ c. search needs) returns-2 (λ c. search needs) (λ c. search needs) (λ c. search needs) (λ c. search needs) returns-3)

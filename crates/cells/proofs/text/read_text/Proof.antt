@@ -16,9 +16,6 @@ returns : tie.Need-returns
 unfolding readText isText inside startOf
 returns c = simp (lt-leb _ _ (c .if1 .taken))
 
-add-if2 : tie.Need-add-if2
-add-if2 c = search needs
-
 returns-2 : tie.Need-returns-2
 unfolding readText isText inside startOf sizeOf
 returns-2 c =
@@ -40,16 +37,10 @@ returns-4 : tie.Need-returns-4
 unfolding readText isText sizeOf
 returns-4 c = simp (in-area (c .before .before), le-leb _ _ (c .before .if3 .left), lt-leb _ _ (c .if4 .taken))
 
-cast-t10 : tie.Need-cast-t10
-cast-t10 c = search needs
-
-cast-t11 : tie.Need-cast-t11
-cast-t11 c = search needs
-
 returns-5 : tie.Need-returns-5
 unfolding readText isText startOf sizeOf textOf
 returns-5 c = simp (in-area (c .before .before), le-leb _ _ (c .before .if3 .left), le-leb _ _ (c .if4 .left))
 
 pub read-text-spec : {M : Type 1} → statement M
 read-text-spec =
-    tie.close (tie.spec returns add-if2 returns-2 returns-3 returns-4 cast-t10 cast-t11 returns-5)
+    tie.close (tie.spec returns (λ c. search needs) returns-2 returns-3 returns-4 (λ c. search needs) (λ c. search needs) returns-5)

@@ -23,22 +23,10 @@ returns c = sym (sameBytes-length (c .before .args .a .now) (c .before .args .b 
 loop-holds : tie.Need-loop-holds Inv-loop μ-loop
 loop-holds c = (search needs, search needs, refl)
 
-shared-slice-read-if2 : tie.Need-shared-slice-read-if2 Inv-loop μ-loop
-shared-slice-read-if2 c = search needs
-
-shared-slice-read-if2-2 : tie.Need-shared-slice-read-if2-2 Inv-loop μ-loop
-shared-slice-read-if2-2 c = search needs
-
 returns-2 : tie.Need-returns-2 Inv-loop μ-loop
 returns-2 c =
     let h = c .before .before .before .before in
     sym (h .loop .inv .2 ∙ sameBytes-differs _ _ (h .loop .i) (omega arith) (omega arith) (c .if2 .taken))
-
-add-i : tie.Need-add-i Inv-loop μ-loop
-add-i c = search needs
-
-loop-less : tie.Need-loop-less Inv-loop μ-loop
-loop-less c = search needs
 
 loop-again : tie.Need-loop-again Inv-loop μ-loop
 loop-again c =
@@ -55,17 +43,4 @@ returns-3 c =
     sym (h .loop .inv .2 ∙ rw (drop-of-length-le _ (c .loop-test .left), drop-of-length-le b {i = h .loop .i} (omega arith)))
 
 pub same-spec : {M : Type 1} → statement M
-same-spec =
-    tie.close
-    (tie.spec
-    Inv-loop
-    μ-loop
-    returns
-    loop-holds
-    shared-slice-read-if2
-    shared-slice-read-if2-2
-    returns-2
-    add-i
-    loop-less
-    loop-again
-    returns-3)
+same-spec = tie.close (tie.spec Inv-loop μ-loop returns loop-holds (λ c. search needs) (λ c. search needs) returns-2 (λ c. search needs) (λ c. search needs) loop-again returns-3)

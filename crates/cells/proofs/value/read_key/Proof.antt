@@ -31,25 +31,10 @@ no-key (SpecText t) h = refl
 no-key (CallText t) h = absurd (miss others 6 tt h)
 no-key (Handle n) h = refl
 
-read-argument-requires : tie.Need-read-argument-requires
-read-argument-requires c κs = search needs
-
-enum-known-v : tie.Need-enum-known-v
-enum-known-v c = search needs
-
-enum-told : tie.Need-enum-told
-enum-told c = search needs
-
 returns : tie.Need-returns
 returns c =
     let r = c .before .before in
     ap keyOf (sym (c .enum-told .given .1) ∙ r .read-argument .ensures) ∙ keyOf-argument _ _ (r .before .before .args .kind)
-
-enum-known-v-2 : tie.Need-enum-known-v-2
-enum-known-v-2 c = search needs
-
-enum-known-v-3 : tie.Need-enum-known-v-3
-enum-known-v-3 c = search needs
 
 returns-2 : tie.Need-returns-2
 returns-2 c =
@@ -75,15 +60,4 @@ returns-4 c =
     ∙ keyOf-argument _ _ (r .before .before .args .kind)
 
 pub read-key-spec : {M : Type 1} → statement M
-read-key-spec =
-    tie.close
-    (tie.spec
-    read-argument-requires
-    enum-known-v
-    enum-told
-    returns
-    enum-known-v-2
-    enum-known-v-3
-    returns-2
-    returns-3
-    returns-4)
+read-key-spec = tie.close (tie.spec (λ c κs. search needs) (λ c. search needs) (λ c. search needs) returns (λ c. search needs) (λ c. search needs) returns-2 returns-3 returns-4)

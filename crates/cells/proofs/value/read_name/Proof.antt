@@ -7,12 +7,6 @@ use Rattle.cells.proofs.LawsReading.{nameOf, nameOf-key}
 use Rattle.cells.proofs.value.read_name.Statement.{statement}
 use Rattle.cells.proofs.value.read_name.Tie as tie
 
-read-key-requires : tie.Need-read-key-requires
-read-key-requires c κs = search needs
-
-enum-known-t : tie.Need-enum-known-t
-enum-known-t c = search needs
-
 returns : tie.Need-returns
 returns c =
     let t = c .before .before .before in
@@ -20,12 +14,6 @@ returns c =
     sym (rw (eq-eqb _ _ (c .if1 .taken)))
     ∙ ap nameOf (sym (t .t .given .1) ∙ r .read-key .ensures)
     ∙ nameOf-key _ _ (r .before .before .args .kind)
-
-enum-told : tie.Need-enum-told
-enum-told c = search needs
-
-enum-told-2 : tie.Need-enum-told-2
-enum-told-2 c = search needs
 
 returns-2 : tie.Need-returns-2
 returns-2 c =
@@ -46,14 +34,4 @@ returns-4 c =
     ap nameOf (sym (c .enum-told2 .given .1) ∙ r .read-key .ensures) ∙ nameOf-key _ _ (r .before .before .args .kind)
 
 pub read-name-spec : {M : Type 1} → statement M
-read-name-spec =
-    tie.close
-    (tie.spec
-    read-key-requires
-    enum-known-t
-    returns
-    enum-told
-    enum-told-2
-    returns-2
-    returns-3
-    returns-4)
+read-name-spec = tie.close (tie.spec (λ c κs. search needs) (λ c. search needs) returns (λ c. search needs) (λ c. search needs) returns-2 returns-3 returns-4)

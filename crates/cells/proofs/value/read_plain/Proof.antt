@@ -18,15 +18,6 @@ returns-2 : tie.Need-returns-2
 unfolding readAs wellFormed
 returns-2 c = λ text area n. rw (c .before .match .keys2, lt-ltb _ _ (c .if2 .taken))
 
-whole-of-requires : tie.Need-whole-of-requires
-whole-of-requires c κs = search needs
-
-real-of-requires : tie.Need-real-of-requires
-real-of-requires c κs = search needs
-
-cast-t13 : tie.Need-cast-t13
-cast-t13 c = search needs
-
 returns-3 : tie.Need-returns-3
 unfolding readAs wellFormed
 returns-3 c =
@@ -71,18 +62,4 @@ returns-9 c =
     (ne-eqb k 1 (r .0 .0 .0 .0 .1), ne-eqb k 2 (r .0 .0 .0 .1), ne-eqb k 3 (r .0 .0 .1), ne-eqb k 4 (r .0 .1), ne-eqb k text n, ne-eqb k 7 (r .1))
 
 pub read-plain-spec : {M : Type 1} → statement M
-read-plain-spec =
-    tie.close
-    (tie.spec
-    returns
-    returns-2
-    whole-of-requires
-    real-of-requires
-    cast-t13
-    returns-3
-    returns-4
-    returns-5
-    returns-6
-    returns-7
-    returns-8
-    returns-9)
+read-plain-spec = tie.close (tie.spec returns returns-2 (λ c κs. search needs) (λ c κs. search needs) (λ c. search needs) returns-3 returns-4 returns-5 returns-6 returns-7 returns-8 returns-9)

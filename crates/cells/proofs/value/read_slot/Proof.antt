@@ -5,16 +5,10 @@ use Rattle.cells.proofs.LawsReading.{slot-default, slot-argument}
 use Rattle.cells.proofs.value.read_slot.Statement.{statement}
 use Rattle.cells.proofs.value.read_slot.Tie as tie
 
-read-default-requires : tie.Need-read-default-requires
-read-default-requires c κs = search needs
-
 returns : tie.Need-returns
 returns c =
     let b = c .before .before .before .before in
     c .read-default .ensures ∙ slot-default (b .args .spec .now) (b .args .call .now) (b .args .kind) (b .args .payload) (c .before .if1 .taken)
-
-read-argument-requires : tie.Need-read-argument-requires
-read-argument-requires c κs = search needs
 
 returns-2 : tie.Need-returns-2
 returns-2 c =
@@ -22,4 +16,4 @@ returns-2 c =
     c .read-argument .ensures ∙ slot-argument (b .args .spec .now) (b .args .call .now) (b .args .kind) (b .args .payload) (c .before .if1 .left)
 
 pub read-slot-spec : {M : Type 1} → statement M
-read-slot-spec = tie.close (tie.spec read-default-requires returns read-argument-requires returns-2)
+read-slot-spec = tie.close (tie.spec (λ c κs. search needs) returns (λ c κs. search needs) returns-2)

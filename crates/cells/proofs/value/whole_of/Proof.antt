@@ -8,17 +8,8 @@ use Rattle.cells.proofs.LawsNumber.{over-twice}
 use Rattle.cells.proofs.value.whole_of.Statement.{statement}
 use Rattle.cells.proofs.value.whole_of.Tie as tie
 
-cast-result : tie.Need-cast-result
-cast-result c = search needs
-
-returns : tie.Need-returns
-returns c = search needs
-
-cast-result-2 : tie.Need-cast-result-2
-cast-result-2 c = search needs
-
 returns-2 : tie.Need-returns-2
 returns-2 c = ap (toZ w64) (over-twice (c .before .args .payload) (c .before .fits .payload))
 
 pub whole-of-spec : {M : Type 1} → statement M
-whole-of-spec = tie.close (tie.spec cast-result returns cast-result-2 returns-2)
+whole-of-spec = tie.close (tie.spec (λ c. search needs) (λ c. search needs) (λ c. search needs) returns-2)

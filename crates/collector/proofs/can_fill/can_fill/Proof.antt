@@ -15,18 +15,12 @@ use borrow.Author.Needs.{needs}
 use Rattle.collector.proofs.can_fill.can_fill.Statement.{statement}
 use Rattle.collector.proofs.can_fill.can_fill.Tie as tie
 
-is-there-requires : tie.Need-is-there-requires
-is-there-requires c κs = search needs
-
 returns : tie.Need-returns
 returns c =
     let start = c .before .before .before .before .before .before .before .before .before in
     let a = start .args in
     let there = c .before in
     sym (no-room (a .spec .now) (a .list) (a .cells .now) (a .area .now) (headOf (a .h)) (start .pre) (there .before .if1 .taken) (sym (there .is-there .ensures) ∙ not-true _ (c .if2 .taken)))
-
-least-requires : tie.Need-least-requires
-least-requires c κs = search needs
 
 -- surplus positionals have *args to go to
 room : (c : tie.Joined1) → let a = c .before .before .before .before .before .before .before .args in
@@ -62,12 +56,6 @@ returns-2 c =
     let a = start .args in
     sym (no-names (a .spec .now) (a .list) (a .cells .now) (a .area .now) (headOf (a .h)) (start .pre) (room (names .before .before .before)) (names .fill-names .last .1 .1 .1 .1 .1 .1 .0) (names .fill-names .result) (names .fill-names .ensures) (not-true _ (c .if3 .taken)))
 
-first-missing-requires : tie.Need-first-missing-requires
-first-missing-requires c κs = search needs
-
-is-there-requires-2 : tie.Need-is-there-requires-2
-is-there-requires-2 c κs = search needs
-
 returns-3 : tie.Need-returns-3
 returns-3 c =
     let names = c .before .before .before .before .before .before in
@@ -77,14 +65,4 @@ returns-3 c =
     ∙ sym (by-missing (a .spec .now) (a .list) (a .cells .now) (a .area .now) (headOf (a .h)) (start .pre) (room (names .before .before .before)) (names .fill-names .last .1 .1 .1 .1 .1 .1 .0) (names .fill-names .result) (names .fill-names .ensures) (not-false _ (c .before .before .before .before .before .if3 .left)) (names .before .before .least .result) (upto (names .before .before)) (c .before .first-missing .result) (c .before .first-missing .ensures))
 
 pub can-fill-spec : {M : Type 1} → statement M
-can-fill-spec =
-    tie.close
-    (tie.spec
-    is-there-requires
-    returns
-    least-requires
-    fill-names-requires
-    returns-2
-    first-missing-requires
-    is-there-requires-2
-    returns-3)
+can-fill-spec = tie.close (tie.spec (λ c κs. search needs) returns (λ c κs. search needs) fill-names-requires returns-2 (λ c κs. search needs) (λ c κs. search needs) returns-3)

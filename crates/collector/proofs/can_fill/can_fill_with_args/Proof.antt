@@ -12,26 +12,11 @@ use borrow.Author.Needs.{needs}
 use Rattle.collector.proofs.can_fill.can_fill_with_args.Statement.{statement}
 use Rattle.collector.proofs.can_fill.can_fill_with_args.Tie as tie
 
-build-requires : tie.Need-build-requires
-build-requires c κs = search needs
-
-enum-known-listed : tie.Need-enum-known-listed
-enum-known-listed c = search needs
-
 returns : tie.Need-returns
 returns c =
     let built = c .before .before .before in
     let a = built .before .before .before .before .before .args in
     sym (fillable-record (a .call-cells .now) (a .area .now) (a .spec-cells .now) (a .spec .now) (c .before .listed .given .0 .0) none (sym (built .build .ensures .answer) ∙ ap answerOf (c .before .listed .given .1)))
-
-enum-told : tie.Need-enum-told
-enum-told c = search needs
-
-ask-form-requires : tie.Need-ask-form-requires
-ask-form-requires c κs = search needs
-
-enum-known-form : tie.Need-enum-known-form
-enum-known-form c = search needs
 
 returns-2 : tie.Need-returns-2
 returns-2 c =
@@ -41,12 +26,6 @@ returns-2 c =
     let a = built .before .before .before .before .before .args in
     sym
     (fillable-call (a .call-cells .now) (a .area .now) (a .spec-cells .now) (a .spec .now) (built-fine (a .spec-cells .now) (a .spec .now) (built .build .result) (built .build .ensures) (told .enum-told .given .1)) (c .before .form .given .0 .0) none (sym (asked .ask-form .ensures) ∙ ap answerOf (c .before .form .given .1)))
-
-enum-told-2 : tie.Need-enum-told-2
-enum-told-2 c = search needs
-
-read-head-requires : tie.Need-read-head-requires
-read-head-requires c κs = search needs
 
 -- 9 to 11 passed
 form-passed : (c : tie.After-enum-told2) → let a = c .before .before .before .before .before .before .before .before .before .before .args in askForm 64 (a .call-cells .now) (a .area .now) ≡ fine
@@ -73,17 +52,4 @@ returns-3 c =
     (built-list (a .spec-cells .now) (a .spec .now) (built .build .result) (built .build .ensures) (told .enum-told .given .1)))
 
 pub can-fill-with-args-spec : {M : Type 1} → statement M
-can-fill-with-args-spec =
-    tie.close
-    (tie.spec
-    build-requires
-    enum-known-listed
-    returns
-    enum-told
-    ask-form-requires
-    enum-known-form
-    returns-2
-    enum-told-2
-    read-head-requires
-    can-fill-requires
-    returns-3)
+can-fill-with-args-spec = tie.close (tie.spec (λ c κs. search needs) (λ c. search needs) returns (λ c. search needs) (λ c κs. search needs) (λ c. search needs) returns-2 (λ c. search needs) (λ c κs. search needs) can-fill-requires returns-3)

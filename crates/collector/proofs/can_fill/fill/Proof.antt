@@ -12,9 +12,6 @@ use borrow.Author.Needs.{needs}
 use Rattle.collector.proofs.can_fill.fill.Statement.{statement}
 use Rattle.collector.proofs.can_fill.fill.Tie as tie
 
-enum-known-found : tie.Need-enum-known-found
-enum-known-found c = search needs
-
 -- the slot that was found is one of the 64, and its two tests
 within : (c : tie.After-found) → c .found .given .0 .0 < 64
 within c = subst (Below 64) (c .found .given .1) (c .before .before .pre)
@@ -42,9 +39,6 @@ mul-named c = omega (arith, within (c .before .before .before .before))
 element-write-named : tie.Need-element-write-named
 element-write-named c = within (c .before .before .before .before)
 
-enum-told : tie.Need-enum-told
-enum-told c = search needs
-
 returns-3 : tie.Need-returns-3
 returns-3 c =
     let f = c .before .before .before .before in (
@@ -60,16 +54,4 @@ returns-4 c =
     )
 
 pub fill-spec : {M : Type 1} → statement M
-fill-spec =
-    tie.close
-    (tie.spec
-    enum-known-found
-    returns
-    mul-if2
-    element-copy-out-if2
-    returns-2
-    mul-named
-    element-write-named
-    enum-told
-    returns-3
-    returns-4)
+fill-spec = tie.close (tie.spec (λ c. search needs) returns mul-if2 element-copy-out-if2 returns-2 mul-named element-write-named (λ c. search needs) returns-3 returns-4)

@@ -29,9 +29,6 @@ abbrev μ-loop : tie.MeasureT-loop
 named-from-requires : tie.Need-named-from-requires Inv-loop μ-loop
 named-from-requires c κs = c .before .before .before .before .pre .call .few
 
-is-there-requires : tie.Need-is-there-requires Inv-loop μ-loop
-is-there-requires c κs = search needs
-
 loop-holds : tie.Need-loop-holds Inv-loop μ-loop
 loop-holds c =
     let start = c .before .before .before .before .before .before .before in
@@ -99,12 +96,6 @@ returns c =
       counts = λ e. absurd (false≢true e);
     }
 
-add-k : tie.Need-add-k Inv-loop μ-loop
-add-k c = search needs
-
-loop-less : tie.Need-loop-less Inv-loop μ-loop
-loop-less c = omega arith
-
 loop-again : tie.Need-loop-again Inv-loop μ-loop
 loop-again c =
     let start = c .before .before .before .before .before .before .before .before .before .before .before .before .before .before .before .before .before .before in
@@ -131,21 +122,4 @@ returns-2 c =
     }
 
 pub fill-names-spec : {M : Type 1} → statement M
-fill-names-spec =
-    tie.close
-    (tie.spec
-    Inv-loop
-    μ-loop
-    named-from-requires
-    is-there-requires
-    loop-holds
-    mul-found-at
-    add-found-at
-    add-found-at-2
-    found-at-requires
-    fill-requires
-    returns
-    add-k
-    loop-less
-    loop-again
-    returns-2)
+fill-names-spec = tie.close (tie.spec Inv-loop μ-loop named-from-requires (λ c κs. search needs) loop-holds mul-found-at add-found-at add-found-at-2 found-at-requires fill-requires returns (λ c. search needs) (λ c. omega arith) loop-again returns-2)

@@ -31,12 +31,6 @@ ends-now qs cells area before after r e =
       left-open = λ h same. let z : _≡_ {A = ℕ} 0 1 = cc in absurd (omega arith);
     }
 
-ask-keys-requires : tie.Need-ask-keys-requires
-ask-keys-requires c κs = search needs
-
-enum-known-asked : tie.Need-enum-known-asked
-enum-known-asked c = search needs
-
 returns : tie.Need-returns
 returns c spec l list positional len =
     let told = c .before in
@@ -45,21 +39,12 @@ returns c spec l list positional len =
     ends-now (parametersIn spec (l .params)) (a .cells .now) (a .area .now) (a .board .now) (a .board .now) _
     (bound-keys (parametersIn spec (l .params)) (a .cells .now) (a .area .now) (a .board .now) (told .asked .given .0 .0) (sym (asked .ask-keys .ensures) ∙ ap answerOf (told .asked .given .1)))
 
-enum-told : tie.Need-enum-told
-enum-told c = search needs
-
 -- 9 to 12 passed
 passed : (c : tie.After-enum-told) → let a = c .before .before .before .before .before .before .args in askKeys 64 (a .cells .now) (a .area .now) ≡ fine
 passed c = sym (c .before .before .ask-keys .ensures) ∙ ap answerOf (c .enum-told .given .1)
 
 form : (c : tie.After-enum-told) → let a = c .before .before .before .before .before .before .args in askForm 64 (a .cells .now) (a .area .now) ≡ fine
 form c = keys-form 64 _ _ (passed c)
-
-read-head-requires : tie.Need-read-head-requires
-read-head-requires c κs = search needs
-
-is-short-requires : tie.Need-is-short-requires
-is-short-requires c κs = search needs
 
 abbrev startOf : tie.After-read-head → tie.Start
 startOf read = read .before .before .before .before .before .before .before
@@ -88,9 +73,6 @@ collect-inline-requires c κs =
       values-within (a .cells .now) (a .area .now) h (read .read-head .ensures) (form (read .before)),
       c .before .if2 .left,
     )
-
-same-length : tie.Need-same-length
-same-length c = search needs
 
 returns-3 : tie.Need-returns-3
 returns-3 c spec l list positional len =
@@ -123,17 +105,4 @@ returns-4 c spec l list positional len =
     }
 
 pub begin-spec : {M : Type 1} → statement M
-begin-spec =
-    tie.close
-    (tie.spec
-    ask-keys-requires
-    enum-known-asked
-    returns
-    enum-told
-    read-head-requires
-    is-short-requires
-    returns-2
-    collect-inline-requires
-    same-length
-    returns-3
-    returns-4)
+begin-spec = tie.close (tie.spec (λ c κs. search needs) (λ c. search needs) returns (λ c. search needs) (λ c κs. search needs) (λ c κs. search needs) returns-2 collect-inline-requires (λ c. search needs) returns-3 returns-4)

@@ -10,18 +10,9 @@ use Rattle.collector.proofs.collect.bind.Tie as tie
 abbrev startOf : tie.After-begin → tie.Start
 startOf begun = begun .before .before .before .before .before .before .before
 
-begin-requires : tie.Need-begin-requires
-begin-requires c κs = search needs
-
 -- how far the call is
 beginning : (begun : tie.After-begin) → let a = startOf begun .args in Beginning (parametersIn (a .spec .now) (a .t1 .params)) (a .cells .now) (a .area .now) (a .board .now) (begun .begin .last .1 .1 .1 .1 .0) (begun .begin .result)
 beginning begun = let a = startOf begun .args in begun .begin .ensures (a .spec .now) (a .t1) (startOf begun .pre) refl refl
-
-enum-known-begun : tie.Need-enum-known-begun
-enum-known-begun c = search needs
-
-enum-known-begun-2 : tie.Need-enum-known-begun-2
-enum-known-begun-2 c = search needs
 
 collect-open-requires : tie.Need-collect-open-requires
 collect-open-requires c κs =
@@ -30,16 +21,10 @@ collect-open-requires c κs =
     let passed = beginning begun .left-open (opened .begun2 .given .0 .0) (opened .begun2 .given .1) in
     record { list = startOf begun .pre; read = passed .0; passed = passed .1 }
 
-same-length : tie.Need-same-length
-same-length c = search needs
-
 returns : tie.Need-returns
 returns c =
     let told = c .before in
     beginning (told .before .before .before .before) .ended (told .begun .given .0 .0) (told .begun .given .1)
-
-same-length-2 : tie.Need-same-length-2
-same-length-2 c = search needs
 
 returns-2 : tie.Need-returns-2
 returns-2 c =
@@ -53,14 +38,4 @@ returns-2 c =
     subst (λ b. Ends (boundTo qs (a .cells .now) (a .area .now) b) b after (ended .collect-open .result)) (passed .2) (ended .collect-open .ensures)
 
 pub bind-spec : {M : Type 1} → statement M
-bind-spec =
-    tie.close
-    (tie.spec
-    begin-requires
-    enum-known-begun
-    enum-known-begun-2
-    collect-open-requires
-    same-length
-    returns
-    same-length-2
-    returns-2)
+bind-spec = tie.close (tie.spec (λ c κs. search needs) (λ c. search needs) (λ c. search needs) collect-open-requires (λ c. search needs) returns (λ c. search needs) returns-2)

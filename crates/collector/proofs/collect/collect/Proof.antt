@@ -10,12 +10,6 @@ use borrow.Author.Needs.{needs}
 use Rattle.collector.proofs.collect.collect.Statement.{statement}
 use Rattle.collector.proofs.collect.collect.Tie as tie
 
-build-requires : tie.Need-build-requires
-build-requires c κs = search needs
-
-enum-known-listed : tie.Need-enum-known-listed
-enum-known-listed c = search needs
-
 returns : tie.Need-returns
 returns c =
     let told = c .before in
@@ -23,18 +17,12 @@ returns c =
     let a = built .before .before .before .before .before .before .args in
     collection-refused (a .spec-cells .now) (a .spec .now) (a .call-cells .now) (a .area .now) (a .board .now) (told .listed .given .0 .0) (sym (built .build .ensures .answer) ∙ ap answerOf (told .listed .given .1))
 
-enum-told : tie.Need-enum-told
-enum-told c = search needs
-
 bind-requires : tie.Need-bind-requires
 bind-requires c κs =
     let told = c .before .before in
     let built = told .before .before in
     let a = built .before .before .before .before .before .before .args in
     built-prepared (a .spec-cells .now) (a .spec .now) (built .build .result) (built .build .ensures) (told .enum-told .given .1)
-
-same-length : tie.Need-same-length
-same-length c = search needs
 
 returns-2 : tie.Need-returns-2
 returns-2 c =
@@ -48,13 +36,4 @@ returns-2 c =
     (ended .bind .ensures)
 
 pub collect-spec : {M : Type 1} → statement M
-collect-spec =
-    tie.close
-    (tie.spec
-    build-requires
-    enum-known-listed
-    returns
-    enum-told
-    bind-requires
-    same-length
-    returns-2)
+collect-spec = tie.close (tie.spec (λ c κs. search needs) (λ c. search needs) returns (λ c. search needs) bind-requires (λ c. search needs) returns-2)

@@ -5,12 +5,6 @@ use borrow.Author.Needs.{needs}
 use Rattle.collector.proofs.collect.collect_inline.Statement.{statement}
 use Rattle.collector.proofs.collect.collect_inline.Tie as tie
 
-copy-written-requires : tie.Need-copy-written-requires
-copy-written-requires c κs = search needs
-
-same-length : tie.Need-same-length
-same-length c = search needs
-
 returns : tie.Need-returns
 returns c =
     let written = c .before .before in
@@ -20,4 +14,4 @@ returns c =
     short-ends qs call (a .cells .now) (headOf (a .h)) short (start .pre .0 .few-p) (a .board .now) _ (start .pre .2) (written .copy-written .ensures)
 
 pub collect-inline-spec : {M : Type 1} → statement M
-collect-inline-spec = tie.close (tie.spec copy-written-requires same-length returns)
+collect-inline-spec = tie.close (tie.spec (λ c κs. search needs) (λ c. search needs) returns)

@@ -41,9 +41,6 @@ few s = call-few (s .args .cells .now) (s .args .area .now) (headOf (s .args .h)
 add-least : tie.Need-add-least
 add-least c = let start = c .before .before .before .before .before in omega (arith, few start .few-p, few start .few-s)
 
-least-requires : tie.Need-least-requires
-least-requires c κs = search needs
-
 abbrev startOf : tie.After-least → tie.Start
 startOf c = c .before .before .before .before .before .before
 
@@ -86,12 +83,6 @@ names-end names =
     subst (λ m. NamesEnd (parametersIn (a .spec .now) (listOf start .params)) (a .cells .now) (a .area .now) (pairsFrom (a .area .now) (a .cells .now) m (a .h .n)) (names .resolve-names .last .1 .1 .1 .1 .1 .1 .1 .1 .1 .1 .0) (names .resolve-names .last .1 .1 .1 .1 .1 .1 .1 .1 .1 .1 .1 .0) (names .resolve-names .result))
     (from .named-from .ensures) (names .resolve-names .ensures (othersOf start) (naming from))
 
-enum-told : tie.Need-enum-told
-enum-told c = search needs
-
-enum-known-resolved : tie.Need-enum-known-resolved
-enum-known-resolved c = search needs
-
 -- 9 to 13 passed where all names are resolved
 passed : (c : tie.After-resolved) → let a = startOf (fromOf (c .before .before) .before) .args in askCall 64 (a .cells .now) (a .area .now) ≡ fine
 passed c =
@@ -123,9 +114,6 @@ returns-2 c =
     bound-names (parametersIn (a .spec .now) (listOf start .params)) (a .cells .now) (a .area .now) (a .board .now) (start .pre .passed)
     (sym (names-asked (a .cells .now) (a .area .now) (headOf (a .h)) (start .pre .read) (form start)) ∙ names-end names .repeated (c .enum-told .given .1))
 
-same-length : tie.Need-same-length
-same-length c = search needs
-
 returns-3 : tie.Need-returns-3
 returns-3 c =
     let ended = c .before .before in
@@ -138,17 +126,4 @@ returns-3 c =
     subst (λ o. Ends o (a .board .now) after (ended .collect-slow .result)) (sym (bound-binding qs (a .cells .now) (a .area .now) (a .board .now) (passed told) (long .if1 .left))) (ended .collect-slow .ensures)
 
 pub collect-open-spec : {M : Type 1} → statement M
-collect-open-spec =
-    tie.close
-    (tie.spec
-    add-least
-    least-requires
-    named-from-requires
-    resolve-names-requires
-    enum-told
-    enum-known-resolved
-    returns
-    collect-slow-requires
-    returns-2
-    same-length
-    returns-3)
+collect-open-spec = tie.close (tie.spec add-least (λ c κs. search needs) named-from-requires resolve-names-requires (λ c. search needs) (λ c. search needs) returns collect-slow-requires returns-2 (λ c. search needs) returns-3)

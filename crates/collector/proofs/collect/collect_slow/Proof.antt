@@ -32,12 +32,6 @@ judging c =
     let start = startOf c in
     c .judge .ensures (start .args .kinds .now) (start .args .payloads .now) (start .pre .call) (start .pre .names)
 
-enum-known-judged : tie.Need-enum-known-judged
-enum-known-judged c = search needs
-
-enum-known-judged-2 : tie.Need-enum-known-judged-2
-enum-known-judged-2 c = search needs
-
 write-board-requires : tie.Need-write-board-requires
 write-board-requires c κs =
     let told = c .before .before .before .before in
@@ -58,9 +52,6 @@ returns c =
     ends-refused qs (positionalsOf call) (namedOf call) (a .board .now) (askBinding qs call) (told .judged .given .0 .0)
     (sym (ap refusing (told .judged .given .1)) ∙ judging asked .refusal) (sym (ap judgedAnswer (told .judged .given .1)) ∙ judging asked .answer)
 
-same-length : tie.Need-same-length
-same-length c = search needs
-
 returns-2 : tie.Need-returns-2
 returns-2 c =
     let written = c .before .before in
@@ -73,13 +64,4 @@ returns-2 c =
     (sym (ap judgedAnswer (told .judged2 .given .1)) ∙ judging asked .answer) (written .write-board .ensures)
 
 pub collect-slow-spec : {M : Type 1} → statement M
-collect-slow-spec =
-    tie.close
-    (tie.spec
-    judge-requires
-    enum-known-judged
-    enum-known-judged-2
-    write-board-requires
-    returns
-    same-length
-    returns-2)
+collect-slow-spec = tie.close (tie.spec judge-requires (λ c. search needs) (λ c. search needs) write-board-requires returns (λ c. search needs) returns-2)

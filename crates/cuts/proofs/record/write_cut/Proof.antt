@@ -11,48 +11,6 @@ use Rattle.cuts.proofs.LawsRun.{run-length}
 use Rattle.cuts.proofs.record.write_cut.Statement.{statement}
 use Rattle.cuts.proofs.record.write_cut.Tie as tie
 
-mul-front-p : tie.Need-mul-front-p
-mul-front-p c = search needs
-
-mul-front-n : tie.Need-mul-front-n
-mul-front-n c = search needs
-
-sub-s : tie.Need-sub-s
-sub-s c = search needs
-
-sub-d : tie.Need-sub-d
-sub-d c = search needs
-
-add-named-at : tie.Need-add-named-at
-add-named-at c = search needs
-
-add-items-at : tie.Need-add-items-at
-add-items-at c = search needs
-
-mul-entries-at : tie.Need-mul-entries-at
-mul-entries-at c = search needs
-
-add-entries-at : tie.Need-add-entries-at
-add-entries-at c = search needs
-
-mul-front : tie.Need-mul-front
-mul-front c = search needs
-
-mul-rest : tie.Need-mul-rest
-mul-rest c = search needs
-
-write-head-requires : tie.Need-write-head-requires
-write-head-requires c κs = search needs
-
-copy-values-requires : tie.Need-copy-values-requires
-copy-values-requires c κs = search needs
-
-copy-values-requires-2 : tie.Need-copy-values-requires-2
-copy-values-requires-2 c κs = search needs
-
-copy-values-requires-3 : tie.Need-copy-values-requires-3
-copy-values-requires-3 c κs = search needs
-
 copy-values-requires-4 : tie.Need-copy-values-requires-4
 copy-values-requires-4 c κs =
     let third = c .before .before .before in
@@ -63,9 +21,6 @@ copy-values-requires-4 c κs =
     let fits = start .pre .0 in
     let held : length (third .copy-values3 .last .1 .1 .1 .0) ≡ length (start .args .out .now) = third .copy-values3 .kept .1 .1 .1 .0 ∙ second .copy-values2 .kept .1 .1 .1 .0 ∙ first .copy-values .kept .1 .1 .1 .0 ∙ head .write-head .kept .1 .1 .1 .0 in
     (omega (arith, fits .whole-pairs, fits .within-pairs), omega (arith, held, start .pre .1, fits .few-values, fits .few-pairs, fits .within-values, fits .within-pairs))
-
-same-length : tie.Need-same-length
-same-length c = search needs
 
 returns : tie.Need-returns
 returns c =
@@ -94,23 +49,4 @@ returns c =
     ∙ ap (λ l. over l (a .out .now)) (sym (cut-cells p n cut fits))
 
 pub write-cut-spec : {M : Type 1} → statement M
-write-cut-spec =
-    tie.close
-    (tie.spec
-    mul-front-p
-    mul-front-n
-    sub-s
-    sub-d
-    add-named-at
-    add-items-at
-    mul-entries-at
-    add-entries-at
-    mul-front
-    mul-rest
-    write-head-requires
-    copy-values-requires
-    copy-values-requires-2
-    copy-values-requires-3
-    copy-values-requires-4
-    same-length
-    returns)
+write-cut-spec = tie.close (tie.spec (λ c. search needs) (λ c. search needs) (λ c. search needs) (λ c. search needs) (λ c. search needs) (λ c. search needs) (λ c. search needs) (λ c. search needs) (λ c. search needs) (λ c. search needs) (λ c κs. search needs) (λ c κs. search needs) (λ c κs. search needs) (λ c κs. search needs) copy-values-requires-4 (λ c. search needs) returns)

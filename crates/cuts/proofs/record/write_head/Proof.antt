@@ -7,33 +7,6 @@ use Rattle.cuts.proofs.LawsWrite.{head-stored}
 use Rattle.cuts.proofs.record.write_head.Statement.{statement}
 use Rattle.cuts.proofs.record.write_head.Tie as tie
 
-new-requires : tie.Need-new-requires
-new-requires c κs = search needs
-
-put-requires : tie.Need-put-requires
-put-requires c κs = search needs
-
-rest-kind-requires : tie.Need-rest-kind-requires
-rest-kind-requires c κs = search needs
-
-new-requires-2 : tie.Need-new-requires-2
-new-requires-2 c κs = search needs
-
-put-requires-2 : tie.Need-put-requires-2
-put-requires-2 c κs = search needs
-
-rest-kind-requires-2 : tie.Need-rest-kind-requires-2
-rest-kind-requires-2 c κs = search needs
-
-new-requires-3 : tie.Need-new-requires-3
-new-requires-3 c κs = search needs
-
-put-requires-3 : tie.Need-put-requires-3
-put-requires-3 c κs = search needs
-
-same-length : tie.Need-same-length
-same-length c = search needs
-
 returns : tie.Need-returns
 returns c =
     let third = c .before .before in
@@ -49,16 +22,4 @@ returns c =
     (ap pairOf (third .before .new3 .ensures ∙ ap (λ k. pair k (a .d)) (third .before .before .rest-kind2 .ensures)))
 
 pub write-head-spec : {M : Type 1} → statement M
-write-head-spec =
-    tie.close
-    (tie.spec
-    new-requires
-    put-requires
-    rest-kind-requires
-    new-requires-2
-    put-requires-2
-    rest-kind-requires-2
-    new-requires-3
-    put-requires-3
-    same-length
-    returns)
+write-head-spec = tie.close (tie.spec (λ c κs. search needs) (λ c κs. search needs) (λ c κs. search needs) (λ c κs. search needs) (λ c κs. search needs) (λ c κs. search needs) (λ c κs. search needs) (λ c κs. search needs) (λ c. search needs) returns)

@@ -4,24 +4,6 @@ use borrow.Author.Needs.{needs}
 use Rattle.findings.proofs.entries.entry_at.Statement.{statement}
 use Rattle.findings.proofs.entries.entry_at.Tie as tie
 
-key-at-requires : tie.Need-key-at-requires
-key-at-requires c κs = search needs
-
-enum-known-t : tie.Need-enum-known-t
-enum-known-t c = search needs
-
-payload-requires : tie.Need-payload-requires
-payload-requires c κs = search needs
-
-word-at-requires : tie.Need-word-at-requires
-word-at-requires c κs = search needs
-
-enum-told : tie.Need-enum-told
-enum-told c = search needs
-
-enum-told-2 : tie.Need-enum-told-2
-enum-told-2 c = search needs
-
 returns : tie.Need-returns
 unfolding enteredIn
 returns c =
@@ -42,15 +24,4 @@ returns-3 c =
     sym (ap (λ k. enteredBy k (wordIn (a .spec .now) (a .codes .now) (a .styles .now) (a .names .now) (a .len) (a .area .now) (a .cells .now) (a .next) (a .sources .now) (a .rest .now) (a .count))) (sym (c .before .before .key-at .ensures) ∙ c .enum-told2 .given .1))
 
 pub entry-at-spec : {M : Type 1} → statement M
-entry-at-spec =
-    tie.close
-    (tie.spec
-    key-at-requires
-    enum-known-t
-    payload-requires
-    word-at-requires
-    enum-told
-    enum-told-2
-    returns
-    returns-2
-    returns-3)
+entry-at-spec = tie.close (tie.spec (λ c κs. search needs) (λ c. search needs) (λ c κs. search needs) (λ c κs. search needs) (λ c. search needs) (λ c. search needs) returns returns-2 returns-3)

@@ -21,21 +21,6 @@ abbrev μ-loop : tie.MeasureT-loop
 loop-holds : tie.Need-loop-holds Inv-loop μ-loop
 loop-holds c = refl
 
-mul-pair-at : tie.Need-mul-pair-at Inv-loop μ-loop
-mul-pair-at c = search needs
-
-element-copy-out-pair-at : tie.Need-element-copy-out-pair-at Inv-loop μ-loop
-element-copy-out-pair-at c = search needs
-
-pair-at-requires : tie.Need-pair-at-requires Inv-loop μ-loop
-pair-at-requires c κs = search needs
-
-part-requires : tie.Need-part-requires Inv-loop μ-loop
-part-requires c κs = search needs
-
-same-requires : tie.Need-same-requires Inv-loop μ-loop
-same-requires c κs = search needs
-
 returns : tie.Need-returns Inv-loop μ-loop
 returns c =
     let start = c .before .before .before .before .before .before .before .before .before .before in
@@ -45,12 +30,6 @@ returns c =
     ap (sameBytes (a .name .now)) (name-part (a .area .now) (a .cells .now) (getD (a .rest .now) (at .k) 0) (start .pre .named (at .k) (search needs) .inside))
     ∙ sym (c .before .same .ensures ∙ ap (sameBytes (a .name .now)) (c .before .before .part .ensures ∙ ap (λ v. partAt (a .area .now) (v .payload)) (c .before .before .before .pair-at .ensures))) in
     sym (at .inv ∙ among-next (a .area .now) (a .cells .now) (a .rest .now) (a .count) (a .name .now) (omega (arith, start .pre .few, start .pre .pairs)) (at .k) (search needs) ∙ ap (λ b. b || among (a .name .now) (textsOf (namesFrom (a .area .now) (a .cells .now) (a .rest .now) (a .count) (at .k + 1)))) (tested ∙ c .if1 .taken))
-
-add-k : tie.Need-add-k Inv-loop μ-loop
-add-k c = search needs
-
-loop-less : tie.Need-loop-less Inv-loop μ-loop
-loop-less c = omega arith
 
 loop-again : tie.Need-loop-again Inv-loop μ-loop
 loop-again c =
@@ -69,19 +48,4 @@ returns-2 c =
     sym (c .before .loop .inv ∙ among-end (a .area .now) (a .cells .now) (a .rest .now) (a .count) (a .name .now) (omega (arith, start .pre .few, start .pre .pairs)) (c .before .loop .k) (search needs))
 
 pub in-rest-spec : {M : Type 1} → statement M
-in-rest-spec =
-    tie.close
-    (tie.spec
-    Inv-loop
-    μ-loop
-    loop-holds
-    mul-pair-at
-    element-copy-out-pair-at
-    pair-at-requires
-    part-requires
-    same-requires
-    returns
-    add-k
-    loop-less
-    loop-again
-    returns-2)
+in-rest-spec = tie.close (tie.spec Inv-loop μ-loop loop-holds (λ c. search needs) (λ c. search needs) (λ c κs. search needs) (λ c κs. search needs) (λ c κs. search needs) returns (λ c. search needs) (λ c. omega arith) loop-again returns-2)

@@ -10,9 +10,6 @@ use borrow.Author.Needs.{needs}
 use Rattle.findings.proofs.entries.is_taken.Statement.{statement}
 use Rattle.findings.proofs.entries.is_taken.Tie as tie
 
-enum-known-found : tie.Need-enum-known-found
-enum-known-found c = search needs
-
 returns : tie.Need-returns
 returns c =
     let a = c .before .before .before .before .before .before .before .args in
@@ -23,12 +20,6 @@ mul-result c = omega (arith, subst (Below 64) (c .before .before .found .given .
 
 element-copy-out-result : tie.Need-element-copy-out-result
 element-copy-out-result c = subst (Below 64) (c .before .before .found .given .1) (c .before .before .before .before .before .before .before .pre .1)
-
-enum-told : tie.Need-enum-told
-enum-told c = search needs
-
-in-rest-requires : tie.Need-in-rest-requires
-in-rest-requires c κs = search needs
 
 returns-2 : tie.Need-returns-2
 returns-2 c =
@@ -41,14 +32,4 @@ returns-3 c =
     c .in-rest .ensures ∙ sym (ap (λ f. takenBy f (a .next) (a .sources .now) (heldNames (a .area .now) (a .cells .now) (a .rest .now) (a .count)) (a .name .now)) (c .before .enum-told .given .1))
 
 pub is-taken-spec : {M : Type 1} → statement M
-is-taken-spec =
-    tie.close
-    (tie.spec
-    enum-known-found
-    returns
-    mul-result
-    element-copy-out-result
-    enum-told
-    in-rest-requires
-    returns-2
-    returns-3)
+is-taken-spec = tie.close (tie.spec (λ c. search needs) returns mul-result element-copy-out-result (λ c. search needs) (λ c κs. search needs) returns-2 returns-3)

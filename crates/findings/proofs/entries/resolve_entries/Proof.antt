@@ -61,9 +61,6 @@ loop-holds c =
       ),
     )
 
-mul-pair : tie.Need-mul-pair Inv-loop μ-loop
-mul-pair c = search needs
-
 -- where the entries begin is near
 from-near : (c : tie.After-entries-from Inv-loop μ-loop) → c .entries-from .result ≤ 1024
 from-near c = omega (arith, c .entries-from .ensures, entries-near (headOf (c .before .before .before .before .args .h)) (c .before .before .before .before .pre .ready .few))
@@ -113,9 +110,6 @@ entry-at-requires c κs =
       one-each (a .spec .now) (theirs start) (a .cells .now) (a .area .now) (ready .list),
     )
 
-enum-told : tie.Need-enum-told Inv-loop μ-loop
-enum-told c = search needs
-
 returns : tie.Need-returns Inv-loop μ-loop
 returns c o ready =
     record {
@@ -123,18 +117,12 @@ returns c o ready =
       resolved = λ n e. let z : _≡_ {A = ℕ} 0 1 = cc in absurd (omega arith);
     }
 
-enum-known-entered : tie.Need-enum-known-entered Inv-loop μ-loop
-enum-known-entered c = search needs
-
 returns-2 : tie.Need-returns-2 Inv-loop μ-loop
 returns-2 c o ready =
     record {
       answer = refused-at (c .before .before .before) (Repeated (c .before .entered .given .0 .0)) (c .before .entered .given .1) 19 (name (placeOf callArea (c .before .entered .given .0 .0))) refl o ready;
       resolved = λ n e. let z : _≡_ {A = ℕ} 0 1 = cc in absurd (omega arith);
     }
-
-enum-known-entered-2 : tie.Need-enum-known-entered-2 Inv-loop μ-loop
-enum-known-entered-2 c = search needs
 
 -- an index that is found is one of a slot
 found-below : (c : tie.After-known-told2 Inv-loop μ-loop) → Below 64 (c .before .entered2 .given .0 .0)
@@ -160,9 +148,6 @@ enter-requires c κs =
       omega (arith, at .inv .1 (start .pre .others) (start .pre .ready) .0 .in-rest, before-room (a .spec .now) (theirs start) (a .cells .now) (a .area .now) (headOf (a .h)) (a .next) (a .sources .now) (a .rest .now) (a .before) (start .pre .ready) (at .k) below),
       found-below told,
     )
-
-add-k : tie.Need-add-k Inv-loop μ-loop
-add-k c = search needs
 
 loop-less : tie.Need-loop-less Inv-loop μ-loop
 loop-less c = omega (arith, c .before .before .before .before .before .before .before .before .before .before .if1 .taken)
@@ -205,24 +190,4 @@ returns-3 c o ready =
     }
 
 pub resolve-entries-spec : {M : Type 1} → statement M
-resolve-entries-spec =
-    tie.close
-    (tie.spec
-    Inv-loop
-    μ-loop
-    entries-from-requires
-    loop-holds
-    mul-pair
-    add-pair
-    entry-at-requires
-    enum-told
-    returns
-    enum-known-entered
-    returns-2
-    enum-known-entered-2
-    behind-requires
-    enter-requires
-    add-k
-    loop-less
-    loop-again
-    returns-3)
+resolve-entries-spec = tie.close (tie.spec Inv-loop μ-loop entries-from-requires loop-holds (λ c. search needs) add-pair entry-at-requires (λ c. search needs) returns (λ c. search needs) returns-2 (λ c. search needs) behind-requires enter-requires (λ c. search needs) loop-less loop-again returns-3)

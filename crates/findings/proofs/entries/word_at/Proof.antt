@@ -9,9 +9,6 @@ use borrow.Author.Needs.{needs}
 use Rattle.findings.proofs.entries.word_at.Statement.{statement}
 use Rattle.findings.proofs.entries.word_at.Tie as tie
 
-part-requires : tie.Need-part-requires
-part-requires c κs = search needs
-
 find-from-requires : tie.Need-find-from-requires
 find-from-requires c κs = c .before .before .before .before .pre .1 (c .part .result .now)
 
@@ -46,4 +43,4 @@ returns-2 c =
 
 pub word-at-spec : {M : Type 1} → statement M
 word-at-spec =
-    tie.close (tie.spec part-requires find-from-requires is-taken-requires returns returns-2)
+    tie.close (tie.spec (λ c κs. search needs) find-from-requires is-taken-requires returns returns-2)

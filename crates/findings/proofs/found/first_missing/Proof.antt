@@ -18,18 +18,6 @@ Inv-loop codes sources next len k₀ k = (firstMissing codes sources next (len -
 abbrev μ-loop : tie.MeasureT-loop
 μ-loop codes sources next len k₀ k = len - k
 
-loop-holds : tie.Need-loop-holds Inv-loop μ-loop
-loop-holds c = search needs
-
-element-copy-out-if1 : tie.Need-element-copy-out-if1 Inv-loop μ-loop
-element-copy-out-if1 c = search needs
-
-mul-if2 : tie.Need-mul-if2 Inv-loop μ-loop
-mul-if2 c = search needs
-
-element-copy-out-if2 : tie.Need-element-copy-out-if2 Inv-loop μ-loop
-element-copy-out-if2 c = search needs
-
 returns : tie.Need-returns Inv-loop μ-loop
 unfolding firstMissing
 returns c =
@@ -39,12 +27,6 @@ returns c =
     (at .inv
     ∙ firstIndex-hit (λ i. eqb (getD (a .codes .now) i 0) 1 && eqb (getD (a .sources .now) i 0) 0) (at .k) (a .len) (search needs)
     (and-both (eqb (getD (a .codes .now) (at .k) 0) 1) (eqb (getD (a .sources .now) (at .k) 0) 0) (eq-eqb (getD (a .codes .now) (at .k) 0) 1 (c .before .before .if1 .taken)) (eq-eqb (getD (a .sources .now) (at .k) 0) 0 (c .if2 .taken))))
-
-add-k : tie.Need-add-k Inv-loop μ-loop
-add-k c = search needs
-
-loop-less : tie.Need-loop-less Inv-loop μ-loop
-loop-less c = search needs
 
 loop-again : tie.Need-loop-again Inv-loop μ-loop
 unfolding firstMissing
@@ -62,17 +44,4 @@ returns-2 c =
     sym (c .before .loop .inv ∙ firstIndex-none (λ i. eqb (getD (a .codes .now) i 0) 1 && eqb (getD (a .sources .now) i 0) 0) (c .before .loop .k) (a .len) (search needs))
 
 pub first-missing-spec : {M : Type 1} → statement M
-first-missing-spec =
-    tie.close
-    (tie.spec
-    Inv-loop
-    μ-loop
-    loop-holds
-    element-copy-out-if1
-    mul-if2
-    element-copy-out-if2
-    returns
-    add-k
-    loop-less
-    loop-again
-    returns-2)
+first-missing-spec = tie.close (tie.spec Inv-loop μ-loop (λ c. search needs) (λ c. search needs) (λ c. search needs) (λ c. search needs) returns (λ c. search needs) (λ c. search needs) loop-again returns-2)

@@ -20,12 +20,6 @@ abbrev μ-loop : tie.MeasureT-loop
 loop-holds : tie.Need-loop-holds Inv-loop μ-loop
 loop-holds c = (search needs, ap (firstNamed (c .args .sources .now) 0) (sym (sub-zero (c .args .next))))
 
-mul-if1 : tie.Need-mul-if1 Inv-loop μ-loop
-mul-if1 c = search needs
-
-element-copy-out-if1 : tie.Need-element-copy-out-if1 Inv-loop μ-loop
-element-copy-out-if1 c = search needs
-
 returns : tie.Need-returns Inv-loop μ-loop
 unfolding firstNamed
 returns c =
@@ -33,12 +27,6 @@ returns c =
     (c .before .before .before .loop .inv .1
     ∙ firstIndex-hit (λ i. not (eqb (getD (c .before .before .before .before .args .sources .now) i 0) 0)) (c .before .before .before .loop .k) (c .before .before .before .before .args .next) (search needs)
     (ap not (ne-eqb (getD (c .before .before .before .before .args .sources .now) (c .before .before .before .loop .k) 0) 0 (c .if1 .taken))))
-
-add-k : tie.Need-add-k Inv-loop μ-loop
-add-k c = search needs
-
-loop-less : tie.Need-loop-less Inv-loop μ-loop
-loop-less c = search needs
 
 loop-again : tie.Need-loop-again Inv-loop μ-loop
 unfolding firstNamed
@@ -57,16 +45,4 @@ returns-2 c =
     ∙ firstIndex-none (λ i. not (eqb (getD (c .before .before .args .sources .now) i 0) 0)) (c .before .loop .k) (c .before .before .args .next) (search needs))
 
 pub first-named-spec : {M : Type 1} → statement M
-first-named-spec =
-    tie.close
-    (tie.spec
-    Inv-loop
-    μ-loop
-    loop-holds
-    mul-if1
-    element-copy-out-if1
-    returns
-    add-k
-    loop-less
-    loop-again
-    returns-2)
+first-named-spec = tie.close (tie.spec Inv-loop μ-loop loop-holds (λ c. search needs) (λ c. search needs) returns (λ c. search needs) (λ c. search needs) loop-again returns-2)

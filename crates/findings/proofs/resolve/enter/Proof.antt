@@ -6,29 +6,11 @@ use borrow.Author.Needs.{needs}
 use Rattle.findings.proofs.resolve.enter.Statement.{statement}
 use Rattle.findings.proofs.resolve.enter.Tie as tie
 
-enum-known-found : tie.Need-enum-known-found
-enum-known-found c = search needs
-
-add-sources : tie.Need-add-sources
-add-sources c = search needs
-
 mul-sources : tie.Need-mul-sources
 mul-sources c = omega (arith, subst (Below 64) (c .before .found .given .1) (c .before .before .before .pre .2))
 
 element-write-sources : tie.Need-element-write-sources
 element-write-sources c = subst (Below 64) (c .before .found .given .1) (c .before .before .before .pre .2)
-
-enum-told : tie.Need-enum-told
-enum-told c = search needs
-
-mul-rest : tie.Need-mul-rest
-mul-rest c = search needs
-
-element-write-rest : tie.Need-element-write-rest
-element-write-rest c = search needs
-
-add-result : tie.Need-add-result
-add-result c = search needs
 
 returns : tie.Need-returns
 returns c =
@@ -45,16 +27,4 @@ returns-2 c =
     )
 
 pub enter-spec : {M : Type 1} → statement M
-enter-spec =
-    tie.close
-    (tie.spec
-    enum-known-found
-    add-sources
-    mul-sources
-    element-write-sources
-    enum-told
-    mul-rest
-    element-write-rest
-    add-result
-    returns
-    returns-2)
+enter-spec = tie.close (tie.spec (λ c. search needs) (λ c. search needs) mul-sources element-write-sources (λ c. search needs) (λ c. search needs) (λ c. search needs) (λ c. search needs) returns returns-2)

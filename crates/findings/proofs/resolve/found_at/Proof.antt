@@ -7,12 +7,6 @@ use borrow.Author.Needs.{needs}
 use Rattle.findings.proofs.resolve.found_at.Statement.{statement}
 use Rattle.findings.proofs.resolve.found_at.Tie as tie
 
-pair-at-requires : tie.Need-pair-at-requires
-pair-at-requires c κs = search needs
-
-part-requires : tie.Need-part-requires
-part-requires c κs = search needs
-
 find-from-requires : tie.Need-find-from-requires
 find-from-requires c κs = c .before .before .before .before .before .pre (c .part .result .now)
 
@@ -25,4 +19,4 @@ returns c =
     (c .before .part .ensures ∙ ap (λ v. partAt (a .area .now) (v .payload)) (c .before .before .pair-at .ensures))
 
 pub found-at-spec : {M : Type 1} → statement M
-found-at-spec = tie.close (tie.spec pair-at-requires part-requires find-from-requires returns)
+found-at-spec = tie.close (tie.spec (λ c κs. search needs) (λ c κs. search needs) find-from-requires returns)

@@ -11,15 +11,6 @@ use borrow.Author.Needs.{needs}
 use Rattle.findings.proofs.resolve.found_near.Statement.{statement}
 use Rattle.findings.proofs.resolve.found_near.Tie as tie
 
-add-find-near : tie.Need-add-find-near
-add-find-near c = search needs
-
-mul-find-near : tie.Need-mul-find-near
-mul-find-near c = search needs
-
-shared-slice-read-find-near : tie.Need-shared-slice-read-find-near
-shared-slice-read-find-near c = search needs
-
 find-near-requires : tie.Need-find-near-requires
 find-near-requires c κs =
     let start = c .before .before .before .before in
@@ -34,4 +25,4 @@ returns c =
     ∙ ap (λ v. findIn (a .spec .now) (a .codes .now) (a .styles .now) (a .names .now) (a .len) (partAt (a .area .now) (v .payload))) (sym (pairAt-is (a .cells .now) (a .pair)))
 
 pub found-near-spec : {M : Type 1} → statement M
-found-near-spec = tie.close (tie.spec add-find-near mul-find-near shared-slice-read-find-near find-near-requires returns)
+found-near-spec = tie.close (tie.spec (λ c. search needs) (λ c. search needs) (λ c. search needs) find-near-requires returns)

@@ -12,26 +12,11 @@ use borrow.Author.Needs.{needs}
 use Rattle.findings.proofs.resolve.repeats.Statement.{statement}
 use Rattle.findings.proofs.resolve.repeats.Tie as tie
 
-enum-known-found : tie.Need-enum-known-found
-enum-known-found c = search needs
-
 mul-result : tie.Need-mul-result
 mul-result c = omega (arith, subst (Below 64) (c .before .found .given .1) (c .before .before .before .before .before .pre .1))
 
 element-copy-out-result : tie.Need-element-copy-out-result
 element-copy-out-result c = subst (Below 64) (c .before .found .given .1) (c .before .before .before .before .before .pre .1)
-
-enum-told : tie.Need-enum-told
-enum-told c = search needs
-
-pair-at-requires : tie.Need-pair-at-requires
-pair-at-requires c κs = search needs
-
-part-requires : tie.Need-part-requires
-part-requires c κs = search needs
-
-in-rest-requires : tie.Need-in-rest-requires
-in-rest-requires c κs = search needs
 
 returns : tie.Need-returns
 returns c =
@@ -49,15 +34,4 @@ returns-2 c =
     ∙ sym (ap (λ f. repeatsBy f (a .sources .now) held (partAt (a .area .now) (pairAt (a .cells .now) (a .pair) .payload))) (c .before .before .before .enum-told .given .1))
 
 pub repeats-spec : {M : Type 1} → statement M
-repeats-spec =
-    tie.close
-    (tie.spec
-    enum-known-found
-    mul-result
-    element-copy-out-result
-    enum-told
-    pair-at-requires
-    part-requires
-    in-rest-requires
-    returns
-    returns-2)
+repeats-spec = tie.close (tie.spec (λ c. search needs) mul-result element-copy-out-result (λ c. search needs) (λ c κs. search needs) (λ c κs. search needs) (λ c κs. search needs) returns returns-2)

@@ -43,9 +43,6 @@ loop-holds : tie.Need-loop-holds Inv-loop μ-loop
 unfolding textsOf
 loop-holds c = (search needs, λ o naming. (refl, naming .empty))
 
-mul-pair : tie.Need-mul-pair Inv-loop μ-loop
-mul-pair c = search needs
-
 add-pair : tie.Need-add-pair Inv-loop μ-loop
 add-pair c =
     let start = startOf (c .before) in
@@ -115,9 +112,6 @@ enter-requires c κs =
       found-below found,
     )
 
-add-k : tie.Need-add-k Inv-loop μ-loop
-add-k c = search needs
-
 loop-less : tie.Need-loop-less Inv-loop μ-loop
 loop-less c = omega (arith, c .before .before .before .before .before .before .before .before .before .loop-test .taken)
 
@@ -155,20 +149,4 @@ returns-2 c o naming =
     }
 
 pub resolve-names-spec : {M : Type 1} → statement M
-resolve-names-spec =
-    tie.close
-    (tie.spec
-    Inv-loop
-    μ-loop
-    loop-holds
-    mul-pair
-    add-pair
-    found-near-requires
-    repeats-requires
-    returns
-    behind-requires
-    enter-requires
-    add-k
-    loop-less
-    loop-again
-    returns-2)
+resolve-names-spec = tie.close (tie.spec Inv-loop μ-loop loop-holds (λ c. search needs) add-pair found-near-requires repeats-requires returns behind-requires enter-requires (λ c. search needs) loop-less loop-again returns-2)

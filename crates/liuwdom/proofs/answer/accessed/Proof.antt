@@ -7,54 +7,6 @@ use borrow.Author.Needs.{needs}
 use Rattle.liuwdom.proofs.answer.accessed.Statement.{statement}
 use Rattle.liuwdom.proofs.answer.accessed.Tie as tie
 
-enum-known-r : tie.Need-enum-known-r
-enum-known-r c = search needs
-
-plain-requires : tie.Need-plain-requires
-plain-requires c κs = search needs
-
-enum-known-r-2 : tie.Need-enum-known-r-2
-enum-known-r-2 c = search needs
-
-plain-requires-2 : tie.Need-plain-requires-2
-plain-requires-2 c κs = search needs
-
-enum-told : tie.Need-enum-told
-enum-told c = search needs
-
-plain-requires-3 : tie.Need-plain-requires-3
-plain-requires-3 c κs = search needs
-
-enum-told-2 : tie.Need-enum-told-2
-enum-told-2 c = search needs
-
-plain-requires-4 : tie.Need-plain-requires-4
-plain-requires-4 c κs = search needs
-
-enum-told-3 : tie.Need-enum-told-3
-enum-told-3 c = search needs
-
-plain-requires-5 : tie.Need-plain-requires-5
-plain-requires-5 c κs = search needs
-
-enum-known-r-3 : tie.Need-enum-known-r-3
-enum-known-r-3 c = search needs
-
-named-requires : tie.Need-named-requires
-named-requires c κs = search needs
-
-enum-known-r-4 : tie.Need-enum-known-r-4
-enum-known-r-4 c = search needs
-
-named-requires-2 : tie.Need-named-requires-2
-named-requires-2 c κs = search needs
-
-enum-known-r-5 : tie.Need-enum-known-r-5
-enum-known-r-5 c = search needs
-
-plain-requires-6 : tie.Need-plain-requires-6
-plain-requires-6 c κs = search needs
-
 returns : tie.Need-returns
 returns c = arm (λ r. accessAnswer (accessIn r)) (c .before .before .r .given .1) (c .plain .ensures)
 
@@ -80,30 +32,4 @@ returns-8 : tie.Need-returns-8
 returns-8 c = arm (λ r. accessAnswer (accessIn r)) (c .before .before .r5 .given .1) (c .plain6 .ensures)
 
 pub accessed-spec : {M : Type 1} → statement M
-accessed-spec =
-    tie.close
-    (tie.spec
-    enum-known-r
-    plain-requires
-    enum-known-r-2
-    plain-requires-2
-    enum-told
-    plain-requires-3
-    enum-told-2
-    plain-requires-4
-    enum-told-3
-    plain-requires-5
-    enum-known-r-3
-    named-requires
-    enum-known-r-4
-    named-requires-2
-    enum-known-r-5
-    plain-requires-6
-    returns
-    returns-2
-    returns-3
-    returns-4
-    returns-5
-    returns-6
-    returns-7
-    returns-8)
+accessed-spec = tie.close (tie.spec (λ c. search needs) (λ c κs. search needs) (λ c. search needs) (λ c κs. search needs) (λ c. search needs) (λ c κs. search needs) (λ c. search needs) (λ c κs. search needs) (λ c. search needs) (λ c κs. search needs) (λ c. search needs) (λ c κs. search needs) (λ c. search needs) (λ c κs. search needs) (λ c. search needs) (λ c κs. search needs) returns returns-2 returns-3 returns-4 returns-5 returns-6 returns-7 returns-8)

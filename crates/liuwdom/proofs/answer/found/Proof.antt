@@ -7,18 +7,6 @@ use borrow.Author.Needs.{needs}
 use Rattle.liuwdom.proofs.answer.found.Statement.{statement}
 use Rattle.liuwdom.proofs.answer.found.Tie as tie
 
-enum-known-r : tie.Need-enum-known-r
-enum-known-r c = search needs
-
-plain-requires : tie.Need-plain-requires
-plain-requires c κs = search needs
-
-enum-told : tie.Need-enum-told
-enum-told c = search needs
-
-plain-requires-2 : tie.Need-plain-requires-2
-plain-requires-2 c κs = search needs
-
 returns : tie.Need-returns
 returns c = arm (λ r. findingAnswer (findingOf r)) (c .before .before .r .given .1) (c .plain .ensures)
 
@@ -27,4 +15,4 @@ returns-2 c = arm (λ r. findingAnswer (findingOf r)) (c .before .enum-told .giv
 
 pub found-spec : {M : Type 1} → statement M
 found-spec =
-    tie.close (tie.spec enum-known-r plain-requires enum-told plain-requires-2 returns returns-2)
+    tie.close (tie.spec (λ c. search needs) (λ c κs. search needs) (λ c. search needs) (λ c κs. search needs) returns returns-2)

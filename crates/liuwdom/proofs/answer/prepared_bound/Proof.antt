@@ -7,18 +7,6 @@ use borrow.Author.Needs.{needs}
 use Rattle.liuwdom.proofs.answer.prepared_bound.Statement.{statement}
 use Rattle.liuwdom.proofs.answer.prepared_bound.Tie as tie
 
-enum-told : tie.Need-enum-told
-enum-told c = search needs
-
-plain-requires : tie.Need-plain-requires
-plain-requires c κs = search needs
-
-enum-known-r : tie.Need-enum-known-r
-enum-known-r c = search needs
-
-collected-requires : tie.Need-collected-requires
-collected-requires c κs = search needs
-
 returns : tie.Need-returns
 returns c board = arm (λ r. outcomeAnswer (toldBy r board)) (c .before .enum-told .given .1) (c .plain .ensures)
 
@@ -27,4 +15,4 @@ returns-2 c board = arm (λ r. outcomeAnswer (toldBy r board)) (c .before .befor
 
 pub prepared-bound-spec : {M : Type 1} → statement M
 prepared-bound-spec =
-    tie.close (tie.spec enum-told plain-requires enum-known-r collected-requires returns returns-2)
+    tie.close (tie.spec (λ c. search needs) (λ c κs. search needs) (λ c. search needs) (λ c κs. search needs) returns returns-2)

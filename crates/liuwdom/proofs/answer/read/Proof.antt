@@ -7,30 +7,6 @@ use borrow.Author.Needs.{needs}
 use Rattle.liuwdom.proofs.answer.read.Statement.{statement}
 use Rattle.liuwdom.proofs.answer.read.Tie as tie
 
-enum-known-r : tie.Need-enum-known-r
-enum-known-r c = search needs
-
-plain-requires : tie.Need-plain-requires
-plain-requires c κs = search needs
-
-enum-told : tie.Need-enum-told
-enum-told c = search needs
-
-plain-requires-2 : tie.Need-plain-requires-2
-plain-requires-2 c κs = search needs
-
-enum-told-2 : tie.Need-enum-told-2
-enum-told-2 c = search needs
-
-plain-requires-3 : tie.Need-plain-requires-3
-plain-requires-3 c κs = search needs
-
-enum-told-3 : tie.Need-enum-told-3
-enum-told-3 c = search needs
-
-plain-requires-4 : tie.Need-plain-requires-4
-plain-requires-4 c κs = search needs
-
 returns : tie.Need-returns
 returns c = arm (λ r. readAnswer (readOf r) (c .before .before .before .before .args .after)) (c .before .before .r .given .1) (c .plain .ensures)
 
@@ -44,18 +20,4 @@ returns-4 : tie.Need-returns-4
 returns-4 c = arm (λ r. readAnswer (readOf r) (c .before .before .before .args .after)) (c .before .enum-told3 .given .1) (c .plain4 .ensures)
 
 pub read-spec : {M : Type 1} → statement M
-read-spec =
-    tie.close
-    (tie.spec
-    enum-known-r
-    plain-requires
-    enum-told
-    plain-requires-2
-    enum-told-2
-    plain-requires-3
-    enum-told-3
-    plain-requires-4
-    returns
-    returns-2
-    returns-3
-    returns-4)
+read-spec = tie.close (tie.spec (λ c. search needs) (λ c κs. search needs) (λ c. search needs) (λ c κs. search needs) (λ c. search needs) (λ c κs. search needs) (λ c. search needs) (λ c κs. search needs) returns returns-2 returns-3 returns-4)

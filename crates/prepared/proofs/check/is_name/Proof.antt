@@ -7,12 +7,9 @@ use Rattle.builder.specs.Params.{stepOf}
 use Rattle.prepared.proofs.check.is_name.Statement.{statement}
 use Rattle.prepared.proofs.check.is_name.Tie as tie
 
-name-inside-requires : tie.Need-name-inside-requires
-name-inside-requires c κs = search needs
-
 returns : tie.Need-returns
 unfolding stepName act stepOf
 returns c = c .name-inside .ensures
 
 pub is-name-spec : {M : Type 1} → statement M
-is-name-spec = tie.close (tie.spec name-inside-requires returns)
+is-name-spec = tie.close (tie.spec (λ c κs. search needs) returns)

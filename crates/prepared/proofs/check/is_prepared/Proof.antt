@@ -6,32 +6,17 @@ use Rattle.prepared.proofs.LawsCheck.{not-few, not-long, not-named, is-
 use Rattle.prepared.proofs.check.is_prepared.Statement.{statement}
 use Rattle.prepared.proofs.check.is_prepared.Tie as tie
 
-cell-requires : tie.Need-cell-requires
-cell-requires c κs = search needs
-
 returns : tie.Need-returns
 returns c =
     let read = c .before in
     let a = read .before .before .before .args in
     not-few (a .area .now) (a .cells .now) (read .cell .result) (read .cell .ensures) (c .if1 .taken)
 
-mul-if2 : tie.Need-mul-if2
-mul-if2 c = search needs
-
-add-if2 : tie.Need-add-if2
-add-if2 c = search needs
-
 returns-2 : tie.Need-returns-2
 returns-2 c =
     let read = c .before .before in
     let a = read .before .before .before .args in
     not-long (a .area .now) (a .cells .now) (read .cell .result) (read .cell .ensures) (c .before .if1 .left) (omega (arith, c .if2 .taken))
-
-shared-slice-read-is-name : tie.Need-shared-slice-read-is-name
-shared-slice-read-is-name c = search needs
-
-is-name-requires : tie.Need-is-name-requires
-is-name-requires c κs = search needs
 
 returns-3 : tie.Need-returns-3
 returns-3 c =
@@ -41,9 +26,6 @@ returns-3 c =
     let a = read .before .before .before .args in
     not-named (a .area .now) (a .cells .now) (read .cell .result) (read .cell .ensures) (long .before .if1 .left) (long .if2 .left) (named .is-name .ensures)
     (c .if3 .taken)
-
-rows-right-requires : tie.Need-rows-right-requires
-rows-right-requires c κs = search needs
 
 returns-4 : tie.Need-returns-4
 returns-4 c =
@@ -55,16 +37,4 @@ returns-4 c =
     (c .before .if3 .left) (c .rows-right .ensures)
 
 pub is-prepared-spec : {M : Type 1} → statement M
-is-prepared-spec =
-    tie.close
-    (tie.spec
-    cell-requires
-    returns
-    mul-if2
-    add-if2
-    returns-2
-    shared-slice-read-is-name
-    is-name-requires
-    returns-3
-    rows-right-requires
-    returns-4)
+is-prepared-spec = tie.close (tie.spec (λ c κs. search needs) returns (λ c. search needs) (λ c. search needs) returns-2 (λ c. search needs) (λ c κs. search needs) returns-3 (λ c κs. search needs) returns-4)

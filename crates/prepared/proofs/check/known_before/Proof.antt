@@ -22,54 +22,9 @@ Inv-loop cells area i at key bytes j₀ j =
 abbrev μ-loop : tie.MeasureT-loop
 μ-loop cells area i at key bytes j₀ j = i - j
 
-mul-at : tie.Need-mul-at Inv-loop μ-loop
-mul-at c = search needs
-
-add-at : tie.Need-add-at Inv-loop μ-loop
-add-at c = search needs
-
-add-key : tie.Need-add-key Inv-loop μ-loop
-add-key c = search needs
-
-mul-key : tie.Need-mul-key Inv-loop μ-loop
-mul-key c = search needs
-
-shared-slice-read-key : tie.Need-shared-slice-read-key Inv-loop μ-loop
-shared-slice-read-key c = search needs
-
-add-bytes-at : tie.Need-add-bytes-at Inv-loop μ-loop
-add-bytes-at c = search needs
-
-mul-bytes-at : tie.Need-mul-bytes-at Inv-loop μ-loop
-mul-bytes-at c = search needs
-
-shared-slice-read-bytes-at : tie.Need-shared-slice-read-bytes-at Inv-loop μ-loop
-shared-slice-read-bytes-at c = search needs
-
-bytes-at-requires : tie.Need-bytes-at-requires Inv-loop μ-loop
-bytes-at-requires c κs = search needs
-
 loop-holds : tie.Need-loop-holds Inv-loop μ-loop
 unfolding known
 loop-holds c = (search needs, rw sub-zero)
-
-mul-if1 : tie.Need-mul-if1 Inv-loop μ-loop
-mul-if1 c = search needs
-
-add-if1 : tie.Need-add-if1 Inv-loop μ-loop
-add-if1 c = search needs
-
-add-if1-2 : tie.Need-add-if1-2 Inv-loop μ-loop
-add-if1-2 c = search needs
-
-mul-if1-2 : tie.Need-mul-if1-2 Inv-loop μ-loop
-mul-if1-2 c = search needs
-
-shared-slice-read-if1 : tie.Need-shared-slice-read-if1 Inv-loop μ-loop
-shared-slice-read-if1 c = search needs
-
-is-named-requires : tie.Need-is-named-requires Inv-loop μ-loop
-is-named-requires c κs = search needs
 
 returns : tie.Need-returns Inv-loop μ-loop
 returns c =
@@ -81,12 +36,6 @@ returns c =
     ∙ at .inv .1
     ∙ any-hit (names bytes) (paramAt (a .area .now) (a .cells .now)) (at .j) (a .i) (c .before .before .before .before .loop-test .taken)
     (sym (c .before .is-named .ensures) ∙ c .if2 .taken))
-
-add-j : tie.Need-add-j Inv-loop μ-loop
-add-j c = search needs
-
-loop-less : tie.Need-loop-less Inv-loop μ-loop
-loop-less c = search needs
 
 loop-again : tie.Need-loop-again Inv-loop μ-loop
 loop-again c =
@@ -111,29 +60,4 @@ returns-2 c =
     ∙ ap (any (names bytes)) (listed-end (paramAt (a .area .now) (a .cells .now)) (at .j) (a .i) (c .loop-test .left)))
 
 pub known-before-spec : {M : Type 1} → statement M
-known-before-spec =
-    tie.close
-    (tie.spec
-    Inv-loop
-    μ-loop
-    mul-at
-    add-at
-    add-key
-    mul-key
-    shared-slice-read-key
-    add-bytes-at
-    mul-bytes-at
-    shared-slice-read-bytes-at
-    bytes-at-requires
-    loop-holds
-    mul-if1
-    add-if1
-    add-if1-2
-    mul-if1-2
-    shared-slice-read-if1
-    is-named-requires
-    returns
-    add-j
-    loop-less
-    loop-again
-    returns-2)
+known-before-spec = tie.close (tie.spec Inv-loop μ-loop (λ c. search needs) (λ c. search needs) (λ c. search needs) (λ c. search needs) (λ c. search needs) (λ c. search needs) (λ c. search needs) (λ c. search needs) (λ c κs. search needs) loop-holds (λ c. search needs) (λ c. search needs) (λ c. search needs) (λ c. search needs) (λ c. search needs) (λ c κs. search needs) returns (λ c. search needs) (λ c. search needs) loop-again returns-2)

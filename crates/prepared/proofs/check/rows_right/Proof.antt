@@ -19,9 +19,6 @@ abbrev μ-loop : tie.MeasureT-loop
 loop-holds : tie.Need-loop-holds Inv-loop μ-loop
 loop-holds c = so-far-none _ _ _ _ refl
 
-row-at-requires : tie.Need-row-at-requires Inv-loop μ-loop
-row-at-requires c κs = search needs
-
 returns : tie.Need-returns Inv-loop μ-loop
 unfolding asked rowIn
 returns c =
@@ -29,9 +26,6 @@ returns c =
     let at = read .before .before .loop in
     let a = read .before .before .before .before .before .args in
     too-early (a .area .now) (a .cells .now) (a .n) (at .used) (at .least) (at .i) (at .inv) (read .before .loop-test .taken) (read .row-at .ensures) (c .if1 .taken)
-
-is-right-requires : tie.Need-is-right-requires Inv-loop μ-loop
-is-right-requires c κs = search needs
 
 returns-2 : tie.Need-returns-2 Inv-loop μ-loop
 unfolding asked rowIn
@@ -42,9 +36,6 @@ returns-2 c =
     let a = read .before .before .before .before .before .args in
     row-wrong (a .area .now) (a .cells .now) (a .n) (at .used) (at .least) (at .i) (at .inv) (read .before .loop-test .taken) (read .row-at .ensures) (told .before .if1 .left)
     (told .is-right .ensures) (c .if2 .taken)
-
-may-be-named-requires : tie.Need-may-be-named-requires Inv-loop μ-loop
-may-be-named-requires c κs = search needs
 
 -- row i is right, and not too early
 right : (c : tie.Else2 Inv-loop μ-loop)
@@ -88,12 +79,6 @@ style-after-requires : tie.Need-style-after-requires Inv-loop μ-loop
 unfolding rowIn
 style-after-requires c κs = style-here (right (c .before .before))
 
-add-i : tie.Need-add-i Inv-loop μ-loop
-add-i c = search needs
-
-loop-less : tie.Need-loop-less Inv-loop μ-loop
-loop-less c = search needs
-
 loop-again : tie.Need-loop-again Inv-loop μ-loop
 unfolding rowIn
 loop-again c =
@@ -115,24 +100,4 @@ returns-4 c =
     all-asked (a .area .now) (a .cells .now) (a .n) (at .used) (at .least) (at .i) (at .inv) (c .loop-test .left)
 
 pub rows-right-spec : {M : Type 1} → statement M
-rows-right-spec =
-    tie.close
-    (tie.spec
-    Inv-loop
-    μ-loop
-    loop-holds
-    row-at-requires
-    returns
-    is-right-requires
-    returns-2
-    may-be-named-requires
-    slot-requires
-    array-read-if4
-    known-before-requires
-    returns-3
-    array-write-used
-    style-after-requires
-    add-i
-    loop-less
-    loop-again
-    returns-4)
+rows-right-spec = tie.close (tie.spec Inv-loop μ-loop loop-holds (λ c κs. search needs) returns (λ c κs. search needs) returns-2 (λ c κs. search needs) slot-requires array-read-if4 known-before-requires returns-3 array-write-used style-after-requires (λ c. search needs) (λ c. search needs) loop-again returns-4)

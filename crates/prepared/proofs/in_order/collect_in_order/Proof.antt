@@ -11,20 +11,11 @@ use Rattle.prepared.proofs.in_order.collect_in_order.Tie as tie
 returns : tie.Need-returns
 returns c = record { short = λ l. (refl, refl); long = λ l. absurd (omega (arith, c .if1 .taken)) }
 
-add-values : tie.Need-add-values
-add-values c = search needs
-
 copy-values-requires : tie.Need-copy-values-requires
 copy-values-requires c κs =
     let start = c .before .before .before .before .before in
     let a = start .args in
     (start .pre .0 .few-p, values-inside (a .cells .now) (headOf (a .h)) (start .pre .1), omega (arith, start .pre .2, c .before .before .if1 .left))
-
-items-from-requires : tie.Need-items-from-requires
-items-from-requires c κs = search needs
-
-mul-copy-values : tie.Need-mul-copy-values
-mul-copy-values c = search needs
 
 copy-values-requires-2 : tie.Need-copy-values-requires-2
 copy-values-requires-2 c κs =
@@ -35,12 +26,6 @@ copy-values-requires-2 c κs =
       items-inside (a .cells .now) (headOf (a .h)) (start .pre .1) (c .before .before .items-from .result) (c .before .before .items-from .ensures),
       omega (arith, start .pre .2, first .before .before .before .if1 .left, first .copy-values .kept .1 .1 .1 .1 .0),
     )
-
-named-from-requires : tie.Need-named-from-requires
-named-from-requires c κs = search needs
-
-mul-copy-named : tie.Need-mul-copy-named
-mul-copy-named c = search needs
 
 copy-named-requires : tie.Need-copy-named-requires
 copy-named-requires c κs =
@@ -53,15 +38,6 @@ copy-named-requires c κs =
       omega (arith, start .pre .2, first .before .before .before .if1 .left, first .copy-values .kept .1 .1 .1 .1 .0, second .copy-values2 .kept .1 .1 .1 .1 .0),
     )
 
-entries-from-requires : tie.Need-entries-from-requires
-entries-from-requires c κs = search needs
-
-add-copy-named : tie.Need-add-copy-named
-add-copy-named c = search needs
-
-mul-copy-named-2 : tie.Need-mul-copy-named-2
-mul-copy-named-2 c = search needs
-
 copy-named-requires-2 : tie.Need-copy-named-requires-2
 copy-named-requires-2 c κs =
     let third = c .before .before .before .before .before in
@@ -73,9 +49,6 @@ copy-named-requires-2 c κs =
       entries-inside (a .cells .now) (headOf (a .h)) (start .pre .1) (c .before .before .entries-from .result) (c .before .before .entries-from .ensures),
       omega (arith, start .pre .2, first .before .before .before .if1 .left, first .copy-values .kept .1 .1 .1 .1 .0, second .copy-values2 .kept .1 .1 .1 .1 .0, third .copy-named .kept .1 .1 .1 .1 .0),
     )
-
-same-length : tie.Need-same-length
-same-length c = search needs
 
 returns-2 : tie.Need-returns-2
 returns-2 c =
@@ -99,21 +72,4 @@ returns-2 c =
     }
 
 pub collect-in-order-spec : {M : Type 1} → statement M
-collect-in-order-spec =
-    tie.close
-    (tie.spec
-    returns
-    add-values
-    copy-values-requires
-    items-from-requires
-    mul-copy-values
-    copy-values-requires-2
-    named-from-requires
-    mul-copy-named
-    copy-named-requires
-    entries-from-requires
-    add-copy-named
-    mul-copy-named-2
-    copy-named-requires-2
-    same-length
-    returns-2)
+collect-in-order-spec = tie.close (tie.spec returns (λ c. search needs) copy-values-requires (λ c κs. search needs) (λ c. search needs) copy-values-requires-2 (λ c κs. search needs) (λ c. search needs) copy-named-requires (λ c κs. search needs) (λ c. search needs) (λ c. search needs) copy-named-requires-2 (λ c. search needs) returns-2)

@@ -51,9 +51,6 @@ entries-from-requires c κs =
     let one = c .before .before .before .before .before .before in
     few (one .before .before .before .before .before .before .before .before)
 
-add-named-in-turn : tie.Need-add-named-in-turn
-add-named-in-turn c = search needs
-
 named-in-turn-requires : tie.Need-named-in-turn-requires
 named-in-turn-requires c κs =
     let one = c .before .before .before .before .before .before .before .before in
@@ -93,21 +90,4 @@ returns-6 c =
     (named .named-from .ensures) (c .named-in-turn2 .ensures e)
 
 pub in-order-spec : {M : Type 1} → statement M
-in-order-spec =
-    tie.close
-    (tie.spec
-    add-values
-    add-if1
-    add-if1-2
-    returns
-    returns-2
-    returns-3
-    takes-positions-requires
-    returns-4
-    entries-from-requires
-    add-named-in-turn
-    named-in-turn-requires
-    returns-5
-    named-from-requires
-    named-in-turn-requires-2
-    returns-6)
+in-order-spec = tie.close (tie.spec add-values add-if1 add-if1-2 returns returns-2 returns-3 takes-positions-requires returns-4 entries-from-requires (λ c. search needs) named-in-turn-requires returns-5 named-from-requires named-in-turn-requires-2 returns-6)

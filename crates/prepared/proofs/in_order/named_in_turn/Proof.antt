@@ -22,9 +22,6 @@ loop-holds c = turn-start _ _ _ _ _ _ _
 less : (c : tie.In-loop Inv-loop μ-loop) → let at = c .before in at .loop .left - 1 < at .before .before .before .before .before .args .count
 less c = let at = c .before .loop in omega (arith, at .inv .most, c .loop-test .taken)
 
-sub-left : tie.Need-sub-left Inv-loop μ-loop
-sub-left c = search needs
-
 mul-named-after : tie.Need-mul-named-after Inv-loop μ-loop
 mul-named-after c = let start = c .before .before .before .before .before .before in omega (arith, less c, start .pre .few)
 
@@ -67,18 +64,4 @@ returns-2 : tie.Need-returns-2 Inv-loop μ-loop
 returns-2 c = let at = c .before .loop in λ e k u. at .inv .named k (omega (arith, c .loop-test .left)) u
 
 pub named-in-turn-spec : {M : Type 1} → statement M
-named-in-turn-spec =
-    tie.close
-    (tie.spec
-    Inv-loop
-    μ-loop
-    loop-holds
-    sub-left
-    mul-named-after
-    add-named-after
-    add-named-after-2
-    named-after-requires
-    returns
-    loop-less
-    loop-again
-    returns-2)
+named-in-turn-spec = tie.close (tie.spec Inv-loop μ-loop loop-holds (λ c. search needs) mul-named-after add-named-after add-named-after-2 named-after-requires returns loop-less loop-again returns-2)

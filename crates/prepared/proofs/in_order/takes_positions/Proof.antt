@@ -4,33 +4,6 @@ use Rattle.prepared.proofs.LawsNamedAfter.{last-3, last-0, last-4}
 use Rattle.prepared.proofs.in_order.takes_positions.Statement.{statement}
 use Rattle.prepared.proofs.in_order.takes_positions.Tie as tie
 
-returns : tie.Need-returns
-returns c = search needs
-
-sub-at : tie.Need-sub-at
-sub-at c = search needs
-
-mul-at : tie.Need-mul-at
-mul-at c = search needs
-
-add-at : tie.Need-add-at
-add-at c = search needs
-
-mul-if2 : tie.Need-mul-if2
-mul-if2 c = search needs
-
-shared-slice-read-if2 : tie.Need-shared-slice-read-if2
-shared-slice-read-if2 c = search needs
-
-add-result : tie.Need-add-result
-add-result c = search needs
-
-mul-result : tie.Need-mul-result
-mul-result c = search needs
-
-shared-slice-read-result : tie.Need-shared-slice-read-result
-shared-slice-read-result c = search needs
-
 returns-2 : tie.Need-returns-2
 returns-2 c = let some = c .before .before .before .before in last-3 (some .before .args .list .now) (some .before .args .count) (some .if1 .left) (c .before .before .if2 .left) (c .before .if3 .taken)
 
@@ -41,18 +14,4 @@ returns-4 : tie.Need-returns-4
 returns-4 c = let some = c .before .before .before in last-4 (some .before .args .list .now) (some .before .args .count) (some .if1 .left) (c .if3 .left)
 
 pub takes-positions-spec : {M : Type 1} → statement M
-takes-positions-spec =
-    tie.close
-    (tie.spec
-    returns
-    sub-at
-    mul-at
-    add-at
-    mul-if2
-    shared-slice-read-if2
-    add-result
-    mul-result
-    shared-slice-read-result
-    returns-2
-    returns-3
-    returns-4)
+takes-positions-spec = tie.close (tie.spec (λ c. search needs) (λ c. search needs) (λ c. search needs) (λ c. search needs) (λ c. search needs) (λ c. search needs) (λ c. search needs) (λ c. search needs) (λ c. search needs) returns-2 returns-3 returns-4)

@@ -19,50 +19,11 @@ abbrev μ-loop : tie.MeasureT-loop
 loop-holds : tie.Need-loop-holds Inv-loop μ-loop
 loop-holds c = (search needs, indexed-none _)
 
-mul-at : tie.Need-mul-at Inv-loop μ-loop
-mul-at c = search needs
-
-add-at : tie.Need-add-at Inv-loop μ-loop
-add-at c = search needs
-
-mul-code : tie.Need-mul-code Inv-loop μ-loop
-mul-code c = search needs
-
-shared-slice-read-code : tie.Need-shared-slice-read-code Inv-loop μ-loop
-shared-slice-read-code c = search needs
-
-add-style : tie.Need-add-style Inv-loop μ-loop
-add-style c = search needs
-
-mul-style : tie.Need-mul-style Inv-loop μ-loop
-mul-style c = search needs
-
-shared-slice-read-style : tie.Need-shared-slice-read-style Inv-loop μ-loop
-shared-slice-read-style c = search needs
-
-takes-rest-requires : tie.Need-takes-rest-requires Inv-loop μ-loop
-takes-rest-requires c κs = search needs
-
-or-first-requires : tie.Need-or-first-requires Inv-loop μ-loop
-or-first-requires c κs = search needs
-
-is-kwargs-requires : tie.Need-is-kwargs-requires Inv-loop μ-loop
-is-kwargs-requires c κs = search needs
-
-or-first-requires-2 : tie.Need-or-first-requires-2 Inv-loop μ-loop
-or-first-requires-2 c κs = search needs
-
 counted-requires : tie.Need-counted-requires Inv-loop μ-loop
 counted-requires c κs = omega (arith, c .before .before .before .before .before .loop .inv .1 .only-few, c .before .before .before .before .loop-test .taken)
 
 counted-requires-2 : tie.Need-counted-requires-2 Inv-loop μ-loop
 counted-requires-2 c κs = omega (arith, c .before .before .before .before .before .before .loop .inv .1 .few)
-
-add-i : tie.Need-add-i Inv-loop μ-loop
-add-i c = search needs
-
-loop-less : tie.Need-loop-less Inv-loop μ-loop
-loop-less c = search needs
 
 loop-again : tie.Need-loop-again Inv-loop μ-loop
 loop-again c =
@@ -89,26 +50,4 @@ returns c =
     λ area. rw e at (at .inv .1 .indices area)
 
 pub indices-in-spec : {M : Type 1} → statement M
-indices-in-spec =
-    tie.close
-    (tie.spec
-    Inv-loop
-    μ-loop
-    loop-holds
-    mul-at
-    add-at
-    mul-code
-    shared-slice-read-code
-    add-style
-    mul-style
-    shared-slice-read-style
-    takes-rest-requires
-    or-first-requires
-    is-kwargs-requires
-    or-first-requires-2
-    counted-requires
-    counted-requires-2
-    add-i
-    loop-less
-    loop-again
-    returns)
+indices-in-spec = tie.close (tie.spec Inv-loop μ-loop loop-holds (λ c. search needs) (λ c. search needs) (λ c. search needs) (λ c. search needs) (λ c. search needs) (λ c. search needs) (λ c. search needs) (λ c κs. search needs) (λ c κs. search needs) (λ c κs. search needs) (λ c κs. search needs) counted-requires counted-requires-2 (λ c. search needs) (λ c. search needs) loop-again returns)

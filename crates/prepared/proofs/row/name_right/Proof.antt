@@ -19,12 +19,6 @@ returns-2 c =
     let a = c .before .before .before .args in
     not-named (a .area .now) (a .name) (a .key) (text-none (a .area .now) (a .name) (c .if2 .taken))
 
-add-if3 : tie.Need-add-if3
-add-if3 c = search needs
-
-short-key-requires : tie.Need-short-key-requires
-short-key-requires c κs = search needs
-
 returns-3 : tie.Need-returns-3
 unfolding bytesAt startOf sizeOf
 returns-3 c =
@@ -40,16 +34,10 @@ returns-4 c =
     let a = c .before .before .before .before .before .args in
     not-named (a .area .now) (a .name) (a .key) (text-long (a .area .now) (a .name) (c .if5 .taken))
 
-add-if6 : tie.Need-add-if6
-add-if6 c = search needs
-
 returns-5 : tie.Need-returns-5
 returns-5 c =
     let a = c .before .before .before .before .before .before .args in
     not-named (a .area .now) (a .name) (a .key) (text-end (a .area .now) (a .name) (c .if6 .taken))
-
-key-of-requires : tie.Need-key-of-requires
-key-of-requires c κs = search needs
 
 returns-6 : tie.Need-returns-6
 returns-6 c =
@@ -60,16 +48,4 @@ returns-6 c =
     (c .key-of .ensures)
 
 pub name-right-spec : {M : Type 1} → statement M
-name-right-spec =
-    tie.close
-    (tie.spec
-    returns
-    returns-2
-    add-if3
-    short-key-requires
-    returns-3
-    returns-4
-    add-if6
-    returns-5
-    key-of-requires
-    returns-6)
+name-right-spec = tie.close (tie.spec returns returns-2 (λ c. search needs) (λ c κs. search needs) returns-3 returns-4 (λ c. search needs) returns-5 (λ c κs. search needs) returns-6)

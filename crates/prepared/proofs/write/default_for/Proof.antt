@@ -11,12 +11,9 @@ use Rattle.prepared.proofs.write.default_for.Tie as tie
 returns : tie.Need-returns
 returns c = default-3 _ _ (c .if1 .taken)
 
-new-requires : tie.Need-new-requires
-new-requires c κs = search needs
-
 returns-2 : tie.Need-returns-2
 unfolding noValue
 returns-2 c = ap pairOf (c .new .ensures) ∙ default-none _ _ (c .before .if1 .left)
 
 pub default-for-spec : {M : Type 1} → statement M
-default-for-spec = tie.close (tie.spec returns new-requires returns-2)
+default-for-spec = tie.close (tie.spec returns (λ c κs. search needs) returns-2)

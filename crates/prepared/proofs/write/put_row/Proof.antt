@@ -11,33 +11,6 @@ use Rattle.prepared.proofs.LawsWritten.{row-stored}
 use Rattle.prepared.proofs.write.put_row.Statement.{statement}
 use Rattle.prepared.proofs.write.put_row.Tie as tie
 
-new-requires : tie.Need-new-requires
-new-requires c κs = search needs
-
-put-requires : tie.Need-put-requires
-put-requires c κs = search needs
-
-add-put : tie.Need-add-put
-add-put c = search needs
-
-new-requires-2 : tie.Need-new-requires-2
-new-requires-2 c κs = search needs
-
-put-requires-2 : tie.Need-put-requires-2
-put-requires-2 c κs = search needs
-
-add-put-2 : tie.Need-add-put-2
-add-put-2 c = search needs
-
-new-requires-3 : tie.Need-new-requires-3
-new-requires-3 c κs = search needs
-
-put-requires-3 : tie.Need-put-requires-3
-put-requires-3 c κs = search needs
-
-same-length : tie.Need-same-length
-same-length c = search needs
-
 returns : tie.Need-returns
 unfolding rowIn valueCells
 returns c =
@@ -52,16 +25,4 @@ returns c =
     (third .put3 .ensures ∙ ap (λ p. stored (second .put2 .last .0) (a .at + 4) (valueCells (pairOf p))) (third .before .new3 .ensures))
 
 pub put-row-spec : {M : Type 1} → statement M
-put-row-spec =
-    tie.close
-    (tie.spec
-    new-requires
-    put-requires
-    add-put
-    new-requires-2
-    put-requires-2
-    add-put-2
-    new-requires-3
-    put-requires-3
-    same-length
-    returns)
+put-row-spec = tie.close (tie.spec (λ c κs. search needs) (λ c κs. search needs) (λ c. search needs) (λ c κs. search needs) (λ c κs. search needs) (λ c. search needs) (λ c κs. search needs) (λ c κs. search needs) (λ c. search needs) returns)

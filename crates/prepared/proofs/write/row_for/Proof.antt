@@ -6,18 +6,6 @@ use Rattle.prepared.proofs.LawsWritten.{row-for}
 use Rattle.prepared.proofs.write.row_for.Statement.{statement}
 use Rattle.prepared.proofs.write.row_for.Tie as tie
 
-default-for-requires : tie.Need-default-for-requires
-default-for-requires c κs = search needs
-
-code-for-requires : tie.Need-code-for-requires
-code-for-requires c κs = search needs
-
-style-for-requires : tie.Need-style-for-requires
-style-for-requires c κs = search needs
-
-key-of-requires : tie.Need-key-of-requires
-key-of-requires c κs = search needs
-
 returns : tie.Need-returns
 unfolding rowIn
 returns c =
@@ -25,6 +13,4 @@ returns c =
     row-for (a .area .now) (a .code) (a .style) (a .name) _ _ _ _ _ (c .before .before .code-for .ensures) (c .before .style-for .ensures) (c .before .before .before .default-for .ensures) (c .key-of .ensures)
 
 pub row-for-spec : {M : Type 1} → statement M
-row-for-spec =
-    tie.close
-    (tie.spec default-for-requires code-for-requires style-for-requires key-of-requires returns)
+row-for-spec = tie.close (tie.spec (λ c κs. search needs) (λ c κs. search needs) (λ c κs. search needs) (λ c κs. search needs) returns)

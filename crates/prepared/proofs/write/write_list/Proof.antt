@@ -21,58 +21,13 @@ Inv-loop function area out₀ params i₀ out i = Writing area params out₀ out
 abbrev μ-loop : tie.MeasureT-loop
 μ-loop function area out₀ params i₀ out i = params .len - i
 
-new-requires : tie.Need-new-requires Inv-loop μ-loop
-new-requires c κs = search needs
-
-put-requires : tie.Need-put-requires Inv-loop μ-loop
-put-requires c κs = search needs
-
 loop-holds : tie.Need-loop-holds Inv-loop μ-loop
 loop-holds c = writing-none _ _ _ (omega (arith, c .before .before .before .before .before .before .before .pre .1, c .before .before .put .kept .0))
-
-element-copy-out-row-for : tie.Need-element-copy-out-row-for Inv-loop μ-loop
-element-copy-out-row-for c = search needs
-
-element-copy-out-row-for-2 : tie.Need-element-copy-out-row-for-2 Inv-loop μ-loop
-element-copy-out-row-for-2 c = search needs
-
-mul-row-for : tie.Need-mul-row-for Inv-loop μ-loop
-mul-row-for c = search needs
-
-element-copy-out-row-for-3 : tie.Need-element-copy-out-row-for-3 Inv-loop μ-loop
-element-copy-out-row-for-3 c = search needs
-
-mul-new : tie.Need-mul-new Inv-loop μ-loop
-mul-new c = search needs
-
-element-copy-out-new : tie.Need-element-copy-out-new Inv-loop μ-loop
-element-copy-out-new c = search needs
-
-mul-new-2 : tie.Need-mul-new-2 Inv-loop μ-loop
-mul-new-2 c = search needs
-
-element-copy-out-new-2 : tie.Need-element-copy-out-new-2 Inv-loop μ-loop
-element-copy-out-new-2 c = search needs
-
-new-requires-2 : tie.Need-new-requires-2 Inv-loop μ-loop
-new-requires-2 c κs = search needs
-
-row-for-requires : tie.Need-row-for-requires Inv-loop μ-loop
-row-for-requires c κs = search needs
-
-mul-put-row : tie.Need-mul-put-row Inv-loop μ-loop
-mul-put-row c = search needs
-
-add-put-row : tie.Need-add-put-row Inv-loop μ-loop
-add-put-row c = search needs
 
 put-row-requires : tie.Need-put-row-requires Inv-loop μ-loop
 put-row-requires c κs =
     let at = c .before .before .before .before .before .before .before .before .before .loop in
     omega (arith, at .inv .room, at .inv .same, c .before .before .before .before .before .before .before .before .loop-test .taken)
-
-add-i : tie.Need-add-i Inv-loop μ-loop
-add-i c = search needs
 
 loop-less : tie.Need-loop-less Inv-loop μ-loop
 loop-less c = omega (arith, c .before .before .before .before .before .before .before .before .before .before .before .loop-test .taken)
@@ -100,29 +55,4 @@ returns c =
     (c .before .before .before .before .put .ensures ∙ ap (λ p. stored (a .out .now) 0 (valueCells (pairOf p))) (c .before .before .before .before .before .new .ensures))
 
 pub write-list-spec : {M : Type 1} → statement M
-write-list-spec =
-    tie.close
-    (tie.spec
-    Inv-loop
-    μ-loop
-    new-requires
-    put-requires
-    loop-holds
-    element-copy-out-row-for
-    element-copy-out-row-for-2
-    mul-row-for
-    element-copy-out-row-for-3
-    mul-new
-    element-copy-out-new
-    mul-new-2
-    element-copy-out-new-2
-    new-requires-2
-    row-for-requires
-    mul-put-row
-    add-put-row
-    put-row-requires
-    add-i
-    loop-less
-    loop-again
-    same-length
-    returns)
+write-list-spec = tie.close (tie.spec Inv-loop μ-loop (λ c κs. search needs) (λ c κs. search needs) loop-holds (λ c. search needs) (λ c. search needs) (λ c. search needs) (λ c. search needs) (λ c. search needs) (λ c. search needs) (λ c. search needs) (λ c. search needs) (λ c κs. search needs) (λ c κs. search needs) (λ c. search needs) (λ c. search needs) put-row-requires (λ c. search needs) loop-less loop-again same-length returns)

@@ -26,15 +26,6 @@ loop-holds : tie.Need-loop-holds Inv-loop μ-loop
 unfolding parametersIn
 loop-holds c = (search needs, λ area. rw sub-zero)
 
-element-copy-out-is-under : tie.Need-element-copy-out-is-under Inv-loop μ-loop
-element-copy-out-is-under c = search needs
-
-element-copy-out-is-under-2 : tie.Need-element-copy-out-is-under-2 Inv-loop μ-loop
-element-copy-out-is-under-2 c = search needs
-
-is-under-requires : tie.Need-is-under-requires Inv-loop μ-loop
-is-under-requires c κs = search needs
-
 returns : tie.Need-returns Inv-loop μ-loop
 returns c area =
     let start = c .before .before .before .before .before .before in
@@ -44,12 +35,6 @@ returns c area =
     (at .inv .1 area
     ∙ any-hit (under (styleOf (a .style))) (parameterAt area (a .t1)) (at .i) (a .t1 .len) (c .before .before .before .before .loop-test .taken)
     (under-at (styleOf (a .style)) area (a .t1) (at .i) (start .pre .1) ∙ sym (c .before .is-under .ensures) ∙ c .if1 .taken))
-
-add-i : tie.Need-add-i Inv-loop μ-loop
-add-i c = search needs
-
-loop-less : tie.Need-loop-less Inv-loop μ-loop
-loop-less c = search needs
 
 loop-again : tie.Need-loop-again Inv-loop μ-loop
 loop-again c =
@@ -71,17 +56,4 @@ returns-2 c area =
     ∙ ap (any (under (styleOf (a .style)))) (listed-end (parameterAt area (a .t1)) (c .before .loop .i) (a .t1 .len) (c .loop-test .left)))
 
 pub any-item-spec : {M : Type 1} → statement M
-any-item-spec =
-    tie.close
-    (tie.spec
-    Inv-loop
-    μ-loop
-    loop-holds
-    element-copy-out-is-under
-    element-copy-out-is-under-2
-    is-under-requires
-    returns
-    add-i
-    loop-less
-    loop-again
-    returns-2)
+any-item-spec = tie.close (tie.spec Inv-loop μ-loop loop-holds (λ c. search needs) (λ c. search needs) (λ c κs. search needs) returns (λ c. search needs) (λ c. search needs) loop-again returns-2)

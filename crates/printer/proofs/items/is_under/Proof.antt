@@ -7,9 +7,6 @@ use Rattle.printer.proofs.LawsItems.{isUnder-plain, isUnder-below, isUn
 use Rattle.printer.proofs.items.is_under.Statement.{statement}
 use Rattle.printer.proofs.items.is_under.Tie as tie
 
-number-requires : tie.Need-number-requires
-number-requires c κs = search needs
-
 returns : tie.Need-returns
 returns c =
     let a = c .before .before .before .args in
@@ -23,4 +20,4 @@ returns-3 : tie.Need-returns-3
 returns-3 c = let a = c .before .before .args in sym (isUnder-above (styleOf (a .style)) (a .code) (a .number) (c .if2 .left))
 
 pub is-under-spec : {M : Type 1} → statement M
-is-under-spec = tie.close (tie.spec number-requires returns returns-2 returns-3)
+is-under-spec = tie.close (tie.spec (λ c κs. search needs) returns returns-2 returns-3)

@@ -38,12 +38,6 @@ write-parameter-requires c κs =
           (at .loop .out) (at .loop .end) (at .loop .inv .2),
     )
 
-add-i : tie.Need-add-i Inv-loop μ-loop
-add-i c = search needs
-
-loop-less : tie.Need-loop-less Inv-loop μ-loop
-loop-less c = search needs
-
 loop-again : tie.Need-loop-again Inv-loop μ-loop
 loop-again c =
     let test = c .before .before .before .before in
@@ -67,15 +61,4 @@ returns c =
     items-whole (styleOf (a .style)) (a .area .now) (a .params) (a .line) (a .out .now) (at .loop .i) (omega arith) (at .loop .out) (at .loop .end) (at .loop .inv .2)
 
 pub write-items-spec : {M : Type 1} → statement M
-write-items-spec =
-    tie.close
-    (tie.spec
-    Inv-loop
-    μ-loop
-    loop-holds
-    write-parameter-requires
-    add-i
-    loop-less
-    loop-again
-    same-length
-    returns)
+write-items-spec = tie.close (tie.spec Inv-loop μ-loop loop-holds write-parameter-requires (λ c. search needs) (λ c. search needs) loop-again same-length returns)

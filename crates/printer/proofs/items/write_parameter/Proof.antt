@@ -11,15 +11,6 @@ use borrow.Author.Needs.{needs}
 use Rattle.printer.proofs.items.write_parameter.Statement.{statement}
 use Rattle.printer.proofs.items.write_parameter.Tie as tie
 
-element-copy-out-code : tie.Need-element-copy-out-code
-element-copy-out-code c = search needs
-
-element-copy-out-is-under : tie.Need-element-copy-out-is-under
-element-copy-out-is-under c = search needs
-
-is-under-requires : tie.Need-is-under-requires
-is-under-requires c κs = search needs
-
 returns : tie.Need-returns
 returns c =
     let start = c .before .before .before .before .before .before in
@@ -29,15 +20,6 @@ returns c =
     (items-miss (under s) (parameterAt (a .area .now) (a .t1) (a .i))
     (under-at s (a .area .now) (a .t1) (a .i) (start .pre .1) ∙ sym (c .before .is-under .ensures) ∙ not-true (c .before .is-under .result) (c .if1 .taken)))
     (start .pre .2)
-
-mul-printed-name : tie.Need-mul-printed-name
-mul-printed-name c = search needs
-
-element-copy-out-printed-name : tie.Need-element-copy-out-printed-name
-element-copy-out-printed-name c = search needs
-
-printed-name-requires : tie.Need-printed-name-requires
-printed-name-requires c κs = search needs
 
 write-item-requires : tie.Need-write-item-requires
 write-item-requires c κs =
@@ -49,9 +31,6 @@ write-item-requires c κs =
     (items-at s (a .area .now) (a .t1) (a .i) (c .before .printed-name .result .now) (start .pre .1)
     (sym (test .is-under .ensures) ∙ not-false (test .is-under .result) (c .before .before .before .if1 .left)) (c .before .printed-name .ensures))
     (start .pre .2)
-
-same-length : tie.Need-same-length
-same-length c = search needs
 
 returns-2 : tie.Need-returns-2
 returns-2 c =
@@ -67,16 +46,4 @@ returns-2 c =
     (c .before .before .write-item .ensures)
 
 pub write-parameter-spec : {M : Type 1} → statement M
-write-parameter-spec =
-    tie.close
-    (tie.spec
-    element-copy-out-code
-    element-copy-out-is-under
-    is-under-requires
-    returns
-    mul-printed-name
-    element-copy-out-printed-name
-    printed-name-requires
-    write-item-requires
-    same-length
-    returns-2)
+write-parameter-spec = tie.close (tie.spec (λ c. search needs) (λ c. search needs) (λ c κs. search needs) returns (λ c. search needs) (λ c. search needs) (λ c κs. search needs) write-item-requires (λ c. search needs) returns-2)

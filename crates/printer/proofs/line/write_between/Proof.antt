@@ -15,17 +15,11 @@ returns c =
     let start = c .before .before in
     put-none (between (start .args .begun)) (start .args .out .now) (start .args .at) (ap between (not-true (start .args .begun) (c .if1 .taken))) (start .pre)
 
-slice-aggregate-write-bytes : tie.Need-slice-aggregate-write-bytes
-slice-aggregate-write-bytes c = search needs
-
 write-bytes-requires : tie.Need-write-bytes-requires
 unfolding comma
 write-bytes-requires c κs =
     let start = c .before .before .before .before in
     omega (arith, start .pre, ap (λ b. length (between b)) (not-false (start .args .begun) (c .before .before .if1 .left)))
-
-same-length : tie.Need-same-length
-same-length c = search needs
 
 returns-2 : tie.Need-returns-2
 unfolding comma
@@ -34,6 +28,4 @@ returns-2 c =
     put-same comma (between (start .args .begun)) (ap between (sym (not-false (start .args .begun) (c .before .before .before .before .before .if1 .left)))) (c .before .before .write-bytes .ensures)
 
 pub write-between-spec : {M : Type 1} → statement M
-write-between-spec =
-    tie.close
-    (tie.spec returns slice-aggregate-write-bytes write-bytes-requires same-length returns-2)
+write-between-spec = tie.close (tie.spec returns (λ c. search needs) write-bytes-requires (λ c. search needs) returns-2)

@@ -28,9 +28,6 @@ write-mark-requires c κs =
     item-mark (a .name .now) (markFor (a .code)) (a .line) (a .out .now) (start .pre) (first .write-between .last .1 .1 .0) (first .write-between .result) (first .write-between .ensures)
     (second .write-bytes .last .1 .1 .0) (second .write-bytes .result) (second .write-bytes .ensures)
 
-same-length : tie.Need-same-length
-same-length c = search needs
-
 returns : tie.Need-returns
 returns c =
     let third = c .before .before in
@@ -43,6 +40,4 @@ returns c =
     (third .write-mark .last .1 .1 .0) _ refl (third .write-mark .ensures)
 
 pub write-item-spec : {M : Type 1} → statement M
-write-item-spec =
-    tie.close
-    (tie.spec write-between-requires write-bytes-requires write-mark-requires same-length returns)
+write-item-spec = tie.close (tie.spec write-between-requires write-bytes-requires write-mark-requires (λ c. search needs) returns)

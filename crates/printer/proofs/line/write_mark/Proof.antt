@@ -9,16 +9,10 @@ use Rattle.printer.proofs.LawsItems.{mark-left-out, mark-below, mark-ab
 use Rattle.printer.proofs.line.write_mark.Statement.{statement}
 use Rattle.printer.proofs.line.write_mark.Tie as tie
 
-slice-aggregate-write-bytes : tie.Need-slice-aggregate-write-bytes
-slice-aggregate-write-bytes c = search needs
-
 write-bytes-requires : tie.Need-write-bytes-requires
 write-bytes-requires c κs =
     let start = c .before .before .before .before .before in
     omega (arith, start .pre, ap length (mark-left-out (start .args .code) (c .before .before .before .if1 .left) (c .before .before .if2 .taken)))
-
-same-length : tie.Need-same-length
-same-length c = search needs
 
 returns : tie.Need-returns
 returns c =
@@ -37,12 +31,4 @@ returns-3 c =
     put-none (markFor (start .args .code)) (start .args .out .now) (start .args .at) (mark-above (start .args .code) (c .if2 .left)) (start .pre)
 
 pub write-mark-spec : {M : Type 1} → statement M
-write-mark-spec =
-    tie.close
-    (tie.spec
-    slice-aggregate-write-bytes
-    write-bytes-requires
-    same-length
-    returns
-    returns-2
-    returns-3)
+write-mark-spec = tie.close (tie.spec (λ c. search needs) write-bytes-requires (λ c. search needs) returns returns-2 returns-3)

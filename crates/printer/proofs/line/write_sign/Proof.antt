@@ -23,9 +23,6 @@ write-item-requires c κs =
     room-same (cond (a .shown) ((a .sign .now) ∷ []) []) _ (a .line) (a .out .now)
     (sign-shown (a .shown) (a .sign .now) (not-false (a .shown) (c .before .if1 .left))) (start .pre)
 
-same-length : tie.Need-same-length
-same-length c = search needs
-
 returns-2 : tie.Need-returns-2
 returns-2 c =
     let a = c .before .before .before .before .before .before .before .args in
@@ -33,4 +30,4 @@ returns-2 c =
     (sym (sign-shown (a .shown) (a .sign .now) (not-false (a .shown) (c .before .before .before .before .if1 .left)))) (c .before .before .write-item .ensures)
 
 pub write-sign-spec : {M : Type 1} → statement M
-write-sign-spec = tie.close (tie.spec returns write-item-requires same-length returns-2)
+write-sign-spec = tie.close (tie.spec returns write-item-requires (λ c. search needs) returns-2)

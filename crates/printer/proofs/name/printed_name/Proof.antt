@@ -4,21 +4,6 @@ use borrow.Author.Needs.{needs}
 use Rattle.printer.proofs.name.printed_name.Statement.{statement}
 use Rattle.printer.proofs.name.printed_name.Tie as tie
 
-bytes-at-requires : tie.Need-bytes-at-requires
-bytes-at-requires c κs = search needs
-
-slice-aggregate-strip-prefix : tie.Need-slice-aggregate-strip-prefix
-slice-aggregate-strip-prefix c = search needs
-
-strip-prefix-requires : tie.Need-strip-prefix-requires
-strip-prefix-requires c κs = search needs
-
-slice-aggregate-strip-prefix-2 : tie.Need-slice-aggregate-strip-prefix-2
-slice-aggregate-strip-prefix-2 c = search needs
-
-strip-prefix-requires-2 : tie.Need-strip-prefix-requires-2
-strip-prefix-requires-2 c κs = search needs
-
 returns : tie.Need-returns
 returns c =
     let first = c .before .before in
@@ -27,12 +12,4 @@ returns c =
     (c .strip-prefix2 .ensures)
 
 pub printed-name-spec : {M : Type 1} → statement M
-printed-name-spec =
-    tie.close
-    (tie.spec
-    bytes-at-requires
-    slice-aggregate-strip-prefix
-    strip-prefix-requires
-    slice-aggregate-strip-prefix-2
-    strip-prefix-requires-2
-    returns)
+printed-name-spec = tie.close (tie.spec (λ c κs. search needs) (λ c. search needs) (λ c κs. search needs) (λ c. search needs) (λ c κs. search needs) returns)

@@ -18,23 +18,11 @@ slice-aggregate-same c =
     let a = c .before .before .before .before .args in
     sym (length-take-le (length (a .prefix .now)) (a .name .now) (c .before .if1 .left))
 
-same-requires : tie.Need-same-requires
-same-requires c κs = search needs
-
 returns-2 : tie.Need-returns-2
 returns-2 c =
     let test = c .before .same in
     let a = c .before .before .before .before .before .before .args in
     sym (prefix-other (a .prefix .now) (a .name .now) (test .result) (test .ensures) (not-true (test .result) (c .if2 .taken)))
-
-sub-result : tie.Need-sub-result
-sub-result c = search needs
-
-part-result-start : tie.Need-part-result-start
-part-result-start c = search needs
-
-part-result-end : tie.Need-part-result-end
-part-result-end c = search needs
 
 returns-3 : tie.Need-returns-3
 returns-3 c =
@@ -44,14 +32,4 @@ returns-3 c =
     ∙ sym (prefix-taken (a .prefix .now) (a .name .now) (test .result) (test .ensures) (not-false (test .result) (c .before .if2 .left)))
 
 pub strip-prefix-spec : {M : Type 1} → statement M
-strip-prefix-spec =
-    tie.close
-    (tie.spec
-    returns
-    slice-aggregate-same
-    same-requires
-    returns-2
-    sub-result
-    part-result-start
-    part-result-end
-    returns-3)
+strip-prefix-spec = tie.close (tie.spec returns slice-aggregate-same (λ c κs. search needs) returns-2 (λ c. search needs) (λ c. search needs) (λ c. search needs) returns-3)

@@ -12,12 +12,6 @@ use borrow.Author.Needs.{needs}
 use Rattle.questions.proofs.judge.ask_placed.Statement.{statement}
 use Rattle.questions.proofs.judge.ask_placed.Tie as tie
 
-first-missing-requires : tie.Need-first-missing-requires
-first-missing-requires c κs = search needs
-
-enum-known-i : tie.Need-enum-known-i
-enum-known-i c = search needs
-
 -- the index that is missing is one of the list's
 within : (c : tie.After-i) → c .i .given .0 .0 < 64
 within c =
@@ -39,15 +33,6 @@ mul-missing c = let inside = within (c .before .before) in search needs
 element-copy-out-missing-2 : tie.Need-element-copy-out-missing-2
 element-copy-out-missing-2 c = within (c .before .before)
 
-missing-requires : tie.Need-missing-requires
-missing-requires c κs = search needs
-
-enum-told : tie.Need-enum-told
-enum-told c = search needs
-
-ask-remainders-requires : tie.Need-ask-remainders-requires
-ask-remainders-requires c κs = search needs
-
 returns : tie.Need-returns
 unfolding placedAs
 returns c =
@@ -67,16 +52,4 @@ returns-2 c =
     ∙ sym (ap (λ o. missingOr o (λ k. missingAs (getD (a .styles .now) k 0) (getD (a .names .now) k 0)) (remaindersAs (a .indices) (a .cells .now) (headOf (a .h)) (a .rest .now) (a .count))) (sym (missing .first-missing .ensures) ∙ ap indexOf (told .enum-told .given .1)))
 
 pub ask-placed-spec : {M : Type 1} → statement M
-ask-placed-spec =
-    tie.close
-    (tie.spec
-    first-missing-requires
-    enum-known-i
-    element-copy-out-missing
-    mul-missing
-    element-copy-out-missing-2
-    missing-requires
-    enum-told
-    ask-remainders-requires
-    returns
-    returns-2)
+ask-placed-spec = tie.close (tie.spec (λ c κs. search needs) (λ c. search needs) element-copy-out-missing mul-missing element-copy-out-missing-2 (λ c κs. search needs) (λ c. search needs) (λ c κs. search needs) returns returns-2)

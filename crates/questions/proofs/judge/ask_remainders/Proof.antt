@@ -14,12 +14,6 @@ use borrow.Author.Needs.{needs}
 use Rattle.questions.proofs.judge.ask_remainders.Statement.{statement}
 use Rattle.questions.proofs.judge.ask_remainders.Tie as tie
 
-add-total : tie.Need-add-total
-add-total c = search needs
-
-lost-requires : tie.Need-lost-requires
-lost-requires c κs = search needs
-
 sub-t12 : tie.Need-sub-t12
 sub-t12 c =
     let a = c .before .before .before .before .args in
@@ -30,15 +24,6 @@ unfolding remaindersAs
 returns c =
     let a = c .before .before .before .before .args in
     sym (ap (λ b. cond b (Refused (ExtraPositionalArg (a .h .p + a .h .s - a .indices .«num_positional»))) (cond (lostTo (a .count) 0 (indexOf (a .indices .kwargs))) (Refused (ExtraNamedArg (a .count) (pairAt (a .cells .now) (getD (a .rest .now) 0 0) .payload))) (Fine (a .count)))) (sym (c .before .lost .ensures) ∙ c .if1 .taken))
-
-lost-requires-2 : tie.Need-lost-requires-2
-lost-requires-2 c κs = search needs
-
-element-copy-out-pair-at : tie.Need-element-copy-out-pair-at
-element-copy-out-pair-at c = search needs
-
-pair-at-requires : tie.Need-pair-at-requires
-pair-at-requires c κs = search needs
 
 returns-2 : tie.Need-returns-2
 unfolding remaindersAs
@@ -56,15 +41,4 @@ returns-3 c =
     ∙ ap (λ b. cond b (Refused (ExtraNamedArg (a .count) (pairAt (a .cells .now) (getD (a .rest .now) 0 0) .payload))) (Fine (a .count))) (sym (c .before .lost2 .ensures) ∙ c .if2 .left))
 
 pub ask-remainders-spec : {M : Type 1} → statement M
-ask-remainders-spec =
-    tie.close
-    (tie.spec
-    add-total
-    lost-requires
-    sub-t12
-    returns
-    lost-requires-2
-    element-copy-out-pair-at
-    pair-at-requires
-    returns-2
-    returns-3)
+ask-remainders-spec = tie.close (tie.spec (λ c. search needs) (λ c κs. search needs) sub-t12 returns (λ c κs. search needs) (λ c. search needs) (λ c κs. search needs) returns-2 returns-3)

@@ -41,15 +41,6 @@ resolve-entries-requires c κs =
       ready = entries-ready (a .spec .now) (listFor start (start .pre .kinds) (start .pre .payloads)) (a .cells .now) (a .area .now) (headOf (a .h)) (a .next) (callOf (a .cells .now) (a .area .now)) (start .pre .call) (a .sources .now) (a .rest .now) (a .before) (start .pre .resolved);
     }
 
-enum-told : tie.Need-enum-told
-enum-told c = search needs
-
-enum-known-entered : tie.Need-enum-known-entered
-enum-known-entered c = search needs
-
-enum-known-entered-2 : tie.Need-enum-known-entered-2
-enum-known-entered-2 c = search needs
-
 ask-placed-requires : tie.Need-ask-placed-requires
 ask-placed-requires c κs =
     let done = c .before .before .before .before .before in
@@ -94,16 +85,4 @@ returns-4 c kinds payloads call resolved =
     judged-placed (a .spec .now) l (a .cells .now) (a .area .now) (headOf (a .h)) (a .next) (callOf (a .cells .now) (a .area .now)) call (test .if1 .left) _ _ (done .resolve-entries .result) (done .resolve-entries .ensures (record { kinds = kinds; payloads = payloads; indices = a .indices }) ready) (entered .entered2 .given .0 .0) (entered .entered2 .given .1) (c .ask-placed .result) (c .ask-placed .ensures)
 
 pub after-names-spec : {M : Type 1} → statement M
-after-names-spec =
-    tie.close
-    (tie.spec
-    returns
-    add-near
-    resolve-entries-requires
-    enum-told
-    enum-known-entered
-    enum-known-entered-2
-    ask-placed-requires
-    returns-2
-    returns-3
-    returns-4)
+after-names-spec = tie.close (tie.spec returns add-near resolve-entries-requires (λ c. search needs) (λ c. search needs) (λ c. search needs) ask-placed-requires returns-2 returns-3 returns-4)

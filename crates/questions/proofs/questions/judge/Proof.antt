@@ -44,9 +44,6 @@ few-next known =
 first-named-requires : tie.Need-first-named-requires
 first-named-requires c κs = omega (arith, few-next (c .before .before))
 
-enum-known-repeated : tie.Need-enum-known-repeated
-enum-known-repeated c = search needs
-
 -- the index that is named twice is one of a slot
 within : (found : tie.After-repeated) → found .repeated .given .0 .0 < 64
 within found =
@@ -63,9 +60,6 @@ mul-t20 c = let inside = within (c .before) in search needs
 
 element-copy-out-t23 : tie.Need-element-copy-out-t23
 element-copy-out-t23 c = within (c .before)
-
-enum-told : tie.Need-enum-told
-enum-told c = search needs
 
 after-names-requires : tie.Need-after-names-requires
 after-names-requires c κs = startOf (c .before .before .before .before .before .before .before) .pre
@@ -92,15 +86,4 @@ returns-3 c kinds payloads call resolved =
     (c .after-names .ensures kinds payloads call resolved)
 
 pub judge-spec : {M : Type 1} → statement M
-judge-spec =
-    tie.close
-    (tie.spec
-    returns
-    first-named-requires
-    enum-known-repeated
-    mul-t20
-    element-copy-out-t23
-    enum-told
-    after-names-requires
-    returns-2
-    returns-3)
+judge-spec = tie.close (tie.spec returns first-named-requires (λ c. search needs) mul-t20 element-copy-out-t23 (λ c. search needs) after-names-requires returns-2 returns-3)

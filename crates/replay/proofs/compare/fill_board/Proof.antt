@@ -14,45 +14,8 @@ Inv-loop fill board₀ i₀ board i = (i ≤ length board) × (length board ≡ 
 abbrev μ-loop : tie.MeasureT-loop
 μ-loop fill board₀ i₀ board i = length board₀ - i
 
-loop-holds : tie.Need-loop-holds Inv-loop μ-loop
-loop-holds c = search needs
-
-filled-requires : tie.Need-filled-requires Inv-loop μ-loop
-filled-requires c κs = search needs
-
-mul-board : tie.Need-mul-board Inv-loop μ-loop
-mul-board c = search needs
-
-slice-write-board : tie.Need-slice-write-board Inv-loop μ-loop
-slice-write-board c = search needs
-
-add-i : tie.Need-add-i Inv-loop μ-loop
-add-i c = search needs
-
-loop-less : tie.Need-loop-less Inv-loop μ-loop
-loop-less c = search needs
-
 loop-again : tie.Need-loop-again Inv-loop μ-loop
 loop-again c = (simp length-set (omega arith), simp length-set (omega arith))
 
-same-length : tie.Need-same-length Inv-loop μ-loop
-same-length c = search needs
-
-returns : tie.Need-returns Inv-loop μ-loop
-returns c = search needs
-
 pub fill-board-spec : {M : Type 1} → statement M
-fill-board-spec =
-    tie.close
-    (tie.spec
-    Inv-loop
-    μ-loop
-    loop-holds
-    filled-requires
-    mul-board
-    slice-write-board
-    add-i
-    loop-less
-    loop-again
-    same-length
-    returns)
+fill-board-spec = tie.close (tie.spec Inv-loop μ-loop (λ c. search needs) (λ c κs. search needs) (λ c. search needs) (λ c. search needs) (λ c. search needs) (λ c. search needs) loop-again (λ c. search needs) (λ c. search needs))

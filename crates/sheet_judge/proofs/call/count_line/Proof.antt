@@ -23,9 +23,6 @@ part-call-part-start c = c .before .before .before .row-in .ensures .inside (not
 part-call-part-end : tie.Need-part-call-part-end
 part-call-part-end c = c .before .before .before .row-in .ensures .inside (not-false _ (c .before .if1 .left)) .part-within
 
-call-part-requires : tie.Need-call-part-requires
-call-part-requires c κs = search needs
-
 sub-value : tie.Need-sub-value
 sub-value c = c .before .before .before .before .before .row-in .ensures .inside (not-false _ (c .before .before .before .if1 .left)) .value-ordered
 
@@ -43,9 +40,6 @@ part-call-row-right-start c = c .before .before .before .before .before .before 
 
 part-call-row-right-end : tie.Need-part-call-row-right-end
 part-call-row-right-end c = c .before .before .before .before .before .before .row-in .ensures .inside (not-false _ (c .before .before .before .before .if1 .left)) .name-within
-
-call-row-right-requires : tie.Need-call-row-right-requires
-call-row-right-requires c κs = search needs
 
 returns-2 : tie.Need-returns-2
 unfolding piece
@@ -70,22 +64,4 @@ returns-3 c =
     (not-false _ (c .before .if2 .left)) _ (c .counts-after .ensures)
 
 pub count-line-spec : {M : Type 1} → statement M
-count-line-spec =
-    tie.close
-    (tie.spec
-    row-in-requires
-    returns
-    sub-call-part
-    part-call-part-start
-    part-call-part-end
-    call-part-requires
-    sub-value
-    part-value-start
-    part-value-end
-    sub-call-row-right
-    part-call-row-right-start
-    part-call-row-right-end
-    call-row-right-requires
-    returns-2
-    counts-after-requires
-    returns-3)
+count-line-spec = tie.close (tie.spec row-in-requires returns sub-call-part part-call-part-start part-call-part-end (λ c κs. search needs) sub-value part-value-start part-value-end sub-call-row-right part-call-row-right-start part-call-row-right-end (λ c κs. search needs) returns-2 counts-after-requires returns-3)

@@ -10,14 +10,8 @@ use Rattle.sheet_judge.proofs.LawsInput.{call-missing, call-wrong, call
 use Rattle.sheet_judge.proofs.call.read_call.Statement.{statement}
 use Rattle.sheet_judge.proofs.call.read_call.Tie as tie
 
-end-of-requires : tie.Need-end-of-requires
-end-of-requires c κs = search needs
-
 returns : tie.Need-returns
 returns c = call-missing (c .before .before .before .args .line) (c .before .end-of .ensures) (c .if1 .taken)
-
-read-header-requires : tie.Need-read-header-requires
-read-header-requires c κs = search needs
 
 returns-2 : tie.Need-returns-2
 returns-2 c =
@@ -26,21 +20,9 @@ returns-2 c =
     let h : e .end-of .result < length (a .input .now) = omega (arith, e .end-of .ensures .within, c .before .before .before .if1 .left) in
     call-wrong (a .line) (e .end-of .ensures) h (c .before .before .read-header .ensures) (not-true _ (c .if2 .taken))
 
-add-from : tie.Need-add-from
-add-from c = search needs
-
 add-read-values : tie.Need-add-read-values
 unfolding inputMost
 add-read-values c = omega arith
-
-read-values-requires : tie.Need-read-values-requires
-read-values-requires c κs = search needs
-
-enum-known-wrong : tie.Need-enum-known-wrong
-enum-known-wrong c = search needs
-
-enum-known-counts : tie.Need-enum-known-counts
-enum-known-counts c = search needs
 
 returns-3 : tie.Need-returns-3
 returns-3 c =
@@ -63,17 +45,4 @@ returns-4 c =
     call-right (a .line) (e .end-of .ensures) h (t .read-header .ensures) (not-false _ (d .if2 .left)) (s .read-values .ensures) (c .before .counts .given .1)
 
 pub read-call-spec : {M : Type 1} → statement M
-read-call-spec =
-    tie.close
-    (tie.spec
-    end-of-requires
-    returns
-    read-header-requires
-    returns-2
-    add-from
-    add-read-values
-    read-values-requires
-    enum-known-wrong
-    enum-known-counts
-    returns-3
-    returns-4)
+read-call-spec = tie.close (tie.spec (λ c κs. search needs) returns (λ c κs. search needs) returns-2 (λ c. search needs) add-read-values (λ c κs. search needs) (λ c. search needs) (λ c. search needs) returns-3 returns-4)

@@ -19,9 +19,6 @@ Inv-loop input from columns first at₀ line₀ counts₀ at line counts =
 abbrev μ-loop : tie.MeasureT-loop
 μ-loop input from columns first at₀ line₀ counts₀ at line counts = length input - at
 
-none-requires : tie.Need-none-requires Inv-loop μ-loop
-none-requires c κs = search needs
-
 loop-holds : tie.Need-loop-holds Inv-loop μ-loop
 loop-holds c =
     let a = c .before .before .args in
@@ -43,12 +40,6 @@ count-line-requires c κs =
     let l = c .before .before .before .loop in
     (e .after, e .within, l .inv .counting .few)
 
-enum-known-more : tie.Need-enum-known-more Inv-loop μ-loop
-enum-known-more c = search needs
-
-enum-told : tie.Need-enum-told Inv-loop μ-loop
-enum-told c = search needs
-
 returns-2 : tie.Need-returns-2 Inv-loop μ-loop
 returns-2 c =
     let e = c .before .before .before .before in
@@ -63,9 +54,6 @@ add-line c =
     let e = c .before .before .before .before .before in
     let p = e .before .before .loop .inv .passed in
     omega (arith, p .many, p .gone, p .within)
-
-add-at : tie.Need-add-at Inv-loop μ-loop
-add-at c = search needs
 
 loop-less : tie.Need-loop-less Inv-loop μ-loop
 loop-less c =
@@ -84,21 +72,4 @@ returns-3 : tie.Need-returns-3 Inv-loop μ-loop
 returns-3 c = values-all (c .before .loop .inv) (c .loop-test .left)
 
 pub read-values-spec : {M : Type 1} → statement M
-read-values-spec =
-    tie.close
-    (tie.spec
-    Inv-loop
-    μ-loop
-    none-requires
-    loop-holds
-    end-of-requires
-    returns
-    count-line-requires
-    enum-known-more
-    enum-told
-    returns-2
-    add-line
-    add-at
-    loop-less
-    loop-again
-    returns-3)
+read-values-spec = tie.close (tie.spec Inv-loop μ-loop (λ c κs. search needs) loop-holds end-of-requires returns count-line-requires (λ c. search needs) (λ c. search needs) returns-2 add-line (λ c. search needs) loop-less loop-again returns-3)

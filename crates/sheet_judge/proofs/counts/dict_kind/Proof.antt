@@ -5,9 +5,6 @@ use borrow.Author.Needs.{needs}
 use Rattle.sheet_judge.proofs.counts.dict_kind.Statement.{statement}
 use Rattle.sheet_judge.proofs.counts.dict_kind.Tie as tie
 
-is-dict-requires : tie.Need-is-dict-requires
-is-dict-requires c κs = search needs
-
 returns : tie.Need-returns
 returns c = rw (sym (c .before .is-dict .ensures) ∙ c .if1 .taken)
 
@@ -15,4 +12,4 @@ returns-2 : tie.Need-returns-2
 returns-2 c = rw (sym (c .before .is-dict .ensures) ∙ c .if1 .left)
 
 pub dict-kind-spec : {M : Type 1} → statement M
-dict-kind-spec = tie.close (tie.spec is-dict-requires returns returns-2)
+dict-kind-spec = tie.close (tie.spec (λ c κs. search needs) returns returns-2)

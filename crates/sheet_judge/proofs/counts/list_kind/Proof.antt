@@ -5,9 +5,6 @@ use borrow.Author.Needs.{needs}
 use Rattle.sheet_judge.proofs.counts.list_kind.Statement.{statement}
 use Rattle.sheet_judge.proofs.counts.list_kind.Tie as tie
 
-is-list-requires : tie.Need-is-list-requires
-is-list-requires c κs = search needs
-
 returns : tie.Need-returns
 returns c = rw (sym (c .before .is-list .ensures) ∙ c .if1 .taken)
 
@@ -15,4 +12,4 @@ returns-2 : tie.Need-returns-2
 returns-2 c = rw (sym (c .before .is-list .ensures) ∙ c .if1 .left)
 
 pub list-kind-spec : {M : Type 1} → statement M
-list-kind-spec = tie.close (tie.spec is-list-requires returns returns-2)
+list-kind-spec = tie.close (tie.spec (λ c κs. search needs) returns returns-2)

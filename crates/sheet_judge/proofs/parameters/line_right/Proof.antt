@@ -41,9 +41,6 @@ part-parameter-row-right-start-3 c = c .before .before .before .before .before .
 part-parameter-row-right-end-3 : tie.Need-part-parameter-row-right-end-3
 part-parameter-row-right-end-3 c = c .before .before .before .before .before .row-in .ensures .inside (not-false _ (c .before .before .before .if1 .left)) .value-within
 
-parameter-row-right-requires : tie.Need-parameter-row-right-requires
-parameter-row-right-requires c κs = search needs
-
 returns-2 : tie.Need-returns-2
 unfolding piece
 returns-2 c =
@@ -52,19 +49,4 @@ returns-2 c =
     rw (sym (r .told) ∙ t) (c .parameter-row-right .ensures ∙ ap (parameterFits 64 _) (r .row t))
 
 pub line-right-spec : {M : Type 1} → statement M
-line-right-spec =
-    tie.close
-    (tie.spec
-    row-in-requires
-    returns
-    sub-parameter-row-right
-    part-parameter-row-right-start
-    part-parameter-row-right-end
-    sub-parameter-row-right-2
-    part-parameter-row-right-start-2
-    part-parameter-row-right-end-2
-    sub-parameter-row-right-3
-    part-parameter-row-right-start-3
-    part-parameter-row-right-end-3
-    parameter-row-right-requires
-    returns-2)
+line-right-spec = tie.close (tie.spec row-in-requires returns sub-parameter-row-right part-parameter-row-right-start part-parameter-row-right-end sub-parameter-row-right-2 part-parameter-row-right-start-2 part-parameter-row-right-end-2 sub-parameter-row-right-3 part-parameter-row-right-start-3 part-parameter-row-right-end-3 (λ c κs. search needs) returns-2)

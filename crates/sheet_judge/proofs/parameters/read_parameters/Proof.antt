@@ -9,32 +9,14 @@ use Rattle.sheet_judge.proofs.LawsInput.{parameters-missing, parameters
 use Rattle.sheet_judge.proofs.parameters.read_parameters.Statement.{statement}
 use Rattle.sheet_judge.proofs.parameters.read_parameters.Tie as tie
 
-end-of-requires : tie.Need-end-of-requires
-end-of-requires c κs = search needs
-
 returns : tie.Need-returns
 returns c = parameters-missing (c .before .end-of .ensures) (c .if1 .taken)
-
-read-header-requires : tie.Need-read-header-requires
-read-header-requires c κs = search needs
 
 returns-2 : tie.Need-returns-2
 returns-2 c =
     let e = c .before .before .before .before in
     let h : e .end-of .result < length (e .before .before .args .input .now) = omega (arith, e .end-of .ensures .within, c .before .before .before .if1 .left) in
     parameters-wrong (e .end-of .ensures) h (c .before .before .read-header .ensures) (not-true _ (c .if2 .taken))
-
-add-from : tie.Need-add-from
-add-from c = search needs
-
-read-steps-requires : tie.Need-read-steps-requires
-read-steps-requires c κs = search needs
-
-enum-known-line : tie.Need-enum-known-line
-enum-known-line c = search needs
-
-enum-known-rows : tie.Need-enum-known-rows
-enum-known-rows c = search needs
 
 returns-3 : tie.Need-returns-3
 returns-3 c =
@@ -55,16 +37,4 @@ returns-4 c =
     parameters-right (e .end-of .ensures) h (t .read-header .ensures) (not-false _ (d .if2 .left)) (s .read-steps .ensures) (c .before .rows .given .1)
 
 pub read-parameters-spec : {M : Type 1} → statement M
-read-parameters-spec =
-    tie.close
-    (tie.spec
-    end-of-requires
-    returns
-    read-header-requires
-    returns-2
-    add-from
-    read-steps-requires
-    enum-known-line
-    enum-known-rows
-    returns-3
-    returns-4)
+read-parameters-spec = tie.close (tie.spec (λ c κs. search needs) returns (λ c κs. search needs) returns-2 (λ c. search needs) (λ c κs. search needs) (λ c. search needs) (λ c. search needs) returns-3 returns-4)

@@ -31,9 +31,6 @@ end-of-requires c κs =
     let p = c .before .loop .inv .1 in
     (p .within, omega arith)
 
-add-t9 : tie.Need-add-t9 Inv-loop μ-loop
-add-t9 c = omega arith
-
 returns : tie.Need-returns Inv-loop μ-loop
 returns c =
     let l = c .before .before .before .loop in
@@ -46,9 +43,6 @@ returns-2 c =
     let h : e .end-of .result < length (e .before .before .before .before .args .input .now) =
     omega (arith, e .end-of .ensures .within, c .before .before .if1 .left) in
     steps-blank-first (l .rows) (l .inv .1) (e .end-of .ensures) h (c .before .if2 .taken) (c .if3 .taken)
-
-add-t11 : tie.Need-add-t11 Inv-loop μ-loop
-add-t11 c = omega arith
 
 returns-3 : tie.Need-returns-3 Inv-loop μ-loop
 returns-3 c =
@@ -63,9 +57,6 @@ line-right-requires c κs =
     let e = c .before .before .end-of .ensures in
     (e .after, e .within)
 
-add-t13 : tie.Need-add-t13 Inv-loop μ-loop
-add-t13 c = omega arith
-
 returns-4 : tie.Need-returns-4 Inv-loop μ-loop
 returns-4 c =
     let e = c .before .before .before .before in
@@ -74,12 +65,6 @@ returns-4 c =
     omega (arith, e .end-of .ensures .within, c .before .before .before .if1 .left) in
     steps-wrong (l .rows) (l .inv .1) (e .end-of .ensures) h (c .before .before .if2 .left)
     (sym (c .before .line-right .ensures) ∙ not-true _ (c .if4 .taken))
-
-add-at : tie.Need-add-at Inv-loop μ-loop
-add-at c = search needs
-
-add-rows : tie.Need-add-rows Inv-loop μ-loop
-add-rows c = omega arith
 
 loop-less : tie.Need-loop-less Inv-loop μ-loop
 loop-less c =
@@ -95,33 +80,10 @@ loop-again c =
     let t = sym (c .before .line-right .ensures) ∙ not-false _ (c .if4 .left) in
     (line-most (columnsOf (a .columns)) (l .rows) _ t, steps-next (l .rows) (l .inv .1) (e .end-of .ensures) h t)
 
-add-t14 : tie.Need-add-t14 Inv-loop μ-loop
-add-t14 c = omega arith
-
 returns-5 : tie.Need-returns-5 Inv-loop μ-loop
 returns-5 c =
     let l = c .before .loop in
     steps-out (l .rows) (l .inv .1) (c .loop-test .left)
 
 pub read-steps-spec : {M : Type 1} → statement M
-read-steps-spec =
-    tie.close
-    (tie.spec
-    Inv-loop
-    μ-loop
-    loop-holds
-    end-of-requires
-    add-t9
-    returns
-    returns-2
-    add-t11
-    returns-3
-    line-right-requires
-    add-t13
-    returns-4
-    add-at
-    add-rows
-    loop-less
-    loop-again
-    add-t14
-    returns-5)
+read-steps-spec = tie.close (tie.spec Inv-loop μ-loop loop-holds end-of-requires (λ c. omega arith) returns returns-2 (λ c. omega arith) returns-3 line-right-requires (λ c. omega arith) returns-4 (λ c. search needs) (λ c. omega arith) loop-less loop-again (λ c. omega arith) returns-5)

@@ -6,54 +6,15 @@ use Rattle.sheet_judge.proofs.LawsCell.{item-no-list, item-list, entry-
 use Rattle.sheet_judge.proofs.row.call_row_right.Statement.{statement}
 use Rattle.sheet_judge.proofs.row.call_row_right.Tie as tie
 
-enum-told : tie.Need-enum-told
-enum-told c = search needs
-
-plain-right-requires : tie.Need-plain-right-requires
-plain-right-requires c κs = search needs
-
-enum-told-2 : tie.Need-enum-told-2
-enum-told-2 c = search needs
-
-named-right-requires : tie.Need-named-right-requires
-named-right-requires c κs = search needs
-
-enum-told-3 : tie.Need-enum-told-3
-enum-told-3 c = search needs
-
-list-right-requires : tie.Need-list-right-requires
-list-right-requires c κs = search needs
-
-enum-told-4 : tie.Need-enum-told-4
-enum-told-4 c = search needs
-
 returns : tie.Need-returns
 returns c =
     let a = c .before .before .before .before .before .before .args in
     rw (c .before .before .enum-told4 .given .1) (sym (item-no-list 64 (a .counts) (a .name .now) (a .value .now) (c .if1 .taken)))
 
-plain-right-requires-2 : tie.Need-plain-right-requires-2
-plain-right-requires-2 c κs = search needs
-
-enum-told-5 : tie.Need-enum-told-5
-enum-told-5 c = search needs
-
-dict-right-requires : tie.Need-dict-right-requires
-dict-right-requires c κs = search needs
-
-enum-told-6 : tie.Need-enum-told-6
-enum-told-6 c = search needs
-
 returns-2 : tie.Need-returns-2
 returns-2 c =
     let a = c .before .before .before .before .before .before .args in
     rw (c .before .before .enum-told6 .given .1) (sym (entry-no-dict 64 (a .counts) (a .name .now) (a .value .now) (c .if2 .taken)))
-
-entry-right-requires : tie.Need-entry-right-requires
-entry-right-requires c κs = search needs
-
-enum-told-7 : tie.Need-enum-told-7
-enum-told-7 c = search needs
 
 returns-3 : tie.Need-returns-3
 returns-3 c = rw (c .before .enum-told .given .1) (c .plain-right .ensures)
@@ -79,32 +40,5 @@ returns-8 c =
     rw (c .before .before .before .enum-told6 .given .1)
     (c .entry-right .ensures ∙ sym (entry-dict 64 (a .counts) (a .name .now) (a .value .now) (c .before .if2 .left)))
 
-returns-9 : tie.Need-returns-9
-returns-9 c = search needs
-
 pub call-row-right-spec : {M : Type 1} → statement M
-call-row-right-spec =
-    tie.close
-    (tie.spec
-    enum-told
-    plain-right-requires
-    enum-told-2
-    named-right-requires
-    enum-told-3
-    list-right-requires
-    enum-told-4
-    returns
-    plain-right-requires-2
-    enum-told-5
-    dict-right-requires
-    enum-told-6
-    returns-2
-    entry-right-requires
-    enum-told-7
-    returns-3
-    returns-4
-    returns-5
-    returns-6
-    returns-7
-    returns-8
-    returns-9)
+call-row-right-spec = tie.close (tie.spec (λ c. search needs) (λ c κs. search needs) (λ c. search needs) (λ c κs. search needs) (λ c. search needs) (λ c κs. search needs) (λ c. search needs) returns (λ c κs. search needs) (λ c. search needs) (λ c κs. search needs) (λ c. search needs) returns-2 (λ c κs. search needs) (λ c. search needs) returns-3 returns-4 returns-5 returns-6 returns-7 returns-8 (λ c. search needs))

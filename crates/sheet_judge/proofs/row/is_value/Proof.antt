@@ -6,18 +6,6 @@ use Rattle.sheet_judge.proofs.LawsCell.{valueRead, value-read}
 use Rattle.sheet_judge.proofs.row.is_value.Statement.{statement}
 use Rattle.sheet_judge.proofs.row.is_value.Tie as tie
 
-read-cell-requires : tie.Need-read-cell-requires
-read-cell-requires c κs = search needs
-
-enum-told : tie.Need-enum-told
-enum-told c = search needs
-
-enum-told-2 : tie.Need-enum-told-2
-enum-told-2 c = search needs
-
-enum-told-3 : tie.Need-enum-told-3
-enum-told-3 c = search needs
-
 returns : tie.Need-returns
 returns c = sym (ap valueRead (c .enum-told .given .1)) ∙ value-read _ (c .before .before .read-cell .result) (c .before .before .read-cell .ensures)
 
@@ -28,6 +16,4 @@ returns-3 : tie.Need-returns-3
 returns-3 c = sym (ap valueRead (c .enum-told3 .given .1)) ∙ value-read _ (c .before .before .read-cell .result) (c .before .before .read-cell .ensures)
 
 pub is-value-spec : {M : Type 1} → statement M
-is-value-spec =
-    tie.close
-    (tie.spec read-cell-requires enum-told enum-told-2 enum-told-3 returns returns-2 returns-3)
+is-value-spec = tie.close (tie.spec (λ c κs. search needs) (λ c. search needs) (λ c. search needs) (λ c. search needs) returns returns-2 returns-3)

@@ -18,9 +18,6 @@ returns-2 c =
     let a = c .before .before .before .before .args in
     sym (and-no-right (isEmpty (a .name .now) && (isList (a .value .now) || isOther (a .value .now))) _ (ne-eqb (a .kind) 0 (c .if2 .taken)))
 
-is-list-requires : tie.Need-is-list-requires
-is-list-requires c κs = search needs
-
 returns-3 : tie.Need-returns-3
 returns-3 c =
     let a = c .before .before .before .before .before .before .args in
@@ -30,9 +27,6 @@ returns-3 c =
       eq-eqb (a .kind) 0 (c .before .before .if2 .left),
     )
 
-is-other-requires : tie.Need-is-other-requires
-is-other-requires c κs = search needs
-
 returns-4 : tie.Need-returns-4
 returns-4 c =
     let a = c .before .before .before .before .before .before .before .args in
@@ -41,4 +35,4 @@ returns-4 c =
 
 pub list-right-spec : {M : Type 1} → statement M
 list-right-spec =
-    tie.close (tie.spec returns returns-2 is-list-requires returns-3 is-other-requires returns-4)
+    tie.close (tie.spec returns returns-2 (λ c κs. search needs) returns-3 (λ c κs. search needs) returns-4)

@@ -14,13 +14,10 @@ returns c =
     let a = c .before .before .args in
     sym (and-no-right (isValue (a .value .now)) _ (le-ltb (a .before) 64 (c .if1 .taken)))
 
-is-value-requires : tie.Need-is-value-requires
-is-value-requires c κs = search needs
-
 returns-2 : tie.Need-returns-2
 returns-2 c =
     let a = c .before .before .before .args in
     c .is-value .ensures ∙ sym (and-yes (isValue (a .value .now)) _ (lt-ltb (a .before) 64 (c .before .if1 .left)))
 
 pub named-right-spec : {M : Type 1} → statement M
-named-right-spec = tie.close (tie.spec returns is-value-requires returns-2)
+named-right-spec = tie.close (tie.spec returns (λ c κs. search needs) returns-2)

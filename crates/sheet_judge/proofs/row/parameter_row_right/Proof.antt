@@ -10,9 +10,6 @@ use Rattle.sheet_judge.proofs.LawsCell.{empty-test, and-yes}
 use Rattle.sheet_judge.proofs.row.parameter_row_right.Statement.{statement}
 use Rattle.sheet_judge.proofs.row.parameter_row_right.Tie as tie
 
-is-def-requires : tie.Need-is-def-requires
-is-def-requires c κs = search needs
-
 returns : tie.Need-returns
 unfolding parameterFits
 returns c =
@@ -35,9 +32,6 @@ returns-3 c =
     let r = rowWith (a .part .now) (a .name .now) (a .value .now) in
     rw (ne-eqb (a .before) 0 (c .before .if1 .left)) (sym (and-no-right (stepRight r) _ (le-ltb (a .before) 67 (c .if3 .taken))))
 
-step-right-requires : tie.Need-step-right-requires
-step-right-requires c κs = search needs
-
 returns-4 : tie.Need-returns-4
 unfolding parameterFits
 returns-4 c =
@@ -48,4 +42,4 @@ returns-4 c =
 
 pub parameter-row-right-spec : {M : Type 1} → statement M
 parameter-row-right-spec =
-    tie.close (tie.spec is-def-requires returns returns-2 returns-3 step-right-requires returns-4)
+    tie.close (tie.spec (λ c κs. search needs) returns returns-2 returns-3 (λ c κs. search needs) returns-4)

@@ -8,11 +8,8 @@ use Rattle.sheet_judge.proofs.row.plain_right.Tie as tie
 returns : tie.Need-returns
 returns c = rw (empty-no (c .before .before .before .args .name .now) (c .if1 .taken))
 
-named-right-requires : tie.Need-named-right-requires
-named-right-requires c κs = search needs
-
 returns-2 : tie.Need-returns-2
 returns-2 c = rw (empty-yes (c .before .before .before .before .args .name .now) (c .before .if1 .left)) (c .named-right .ensures)
 
 pub plain-right-spec : {M : Type 1} → statement M
-plain-right-spec = tie.close (tie.spec returns named-right-requires returns-2)
+plain-right-spec = tie.close (tie.spec returns (λ c κs. search needs) returns-2)

@@ -9,15 +9,6 @@ use Rattle.sheet_judge.proofs.LawsCell.{empty-test, step-code, step-mar
 use Rattle.sheet_judge.proofs.row.step_right.Statement.{statement}
 use Rattle.sheet_judge.proofs.row.step_right.Tie as tie
 
-code-of-requires : tie.Need-code-of-requires
-code-of-requires c κs = search needs
-
-is-value-requires : tie.Need-is-value-requires
-is-value-requires c κs = search needs
-
-both-empty-requires : tie.Need-both-empty-requires
-both-empty-requires c κs = search needs
-
 returns : tie.Need-returns
 returns c =
     let a = c .before .before .before .before .before .args in
@@ -51,14 +42,4 @@ returns-5 c =
     c .both-empty .ensures ∙ sym (step-mark (rowWith (a .part .now) (a .name .now) (a .value .now)) code (sym (c .before .before .code-of .ensures)) h)
 
 pub step-right-spec : {M : Type 1} → statement M
-step-right-spec =
-    tie.close
-    (tie.spec
-    code-of-requires
-    is-value-requires
-    both-empty-requires
-    returns
-    returns-2
-    returns-3
-    returns-4
-    returns-5)
+step-right-spec = tie.close (tie.spec (λ c κs. search needs) (λ c κs. search needs) (λ c κs. search needs) returns returns-2 returns-3 returns-4 returns-5)

@@ -8,36 +8,9 @@ use Rattle.sheet_lines.proofs.LawsHeader.{column-first, column-second, 
 use Rattle.sheet_lines.proofs.header.column_of.Statement.{statement}
 use Rattle.sheet_lines.proofs.header.column_of.Tie as tie
 
-sub-same : tie.Need-sub-same
-sub-same c = search needs
-
-part-same-start : tie.Need-part-same-start
-part-same-start c = search needs
-
-part-same-end : tie.Need-part-same-end
-part-same-end c = search needs
-
-same-requires : tie.Need-same-requires
-same-requires c κs = search needs
-
 returns : tie.Need-returns
 unfolding piece
 returns c = sym (column-first _ _ _ _ (sym (c .before .same .ensures) ∙ c .if1 .taken))
-
-add-next : tie.Need-add-next
-add-next c = search needs
-
-sub-same-2 : tie.Need-sub-same-2
-sub-same-2 c = search needs
-
-part-same-start-2 : tie.Need-part-same-start-2
-part-same-start-2 c = search needs
-
-part-same-end-2 : tie.Need-part-same-end-2
-part-same-end-2 c = search needs
-
-same-requires-2 : tie.Need-same-requires-2
-same-requires-2 c κs = search needs
 
 returns-2 : tie.Need-returns-2
 unfolding piece
@@ -45,21 +18,6 @@ returns-2 c =
     let d = c .before .before .before in
     sym
     (column-second _ _ _ _ (sym (d .before .same .ensures) ∙ d .if1 .left) (rw add-one at (sym (c .before .same2 .ensures) ∙ c .if2 .taken)))
-
-add-last : tie.Need-add-last
-add-last c = search needs
-
-sub-same-3 : tie.Need-sub-same-3
-sub-same-3 c = search needs
-
-part-same-start-3 : tie.Need-part-same-start-3
-part-same-start-3 c = search needs
-
-part-same-end-3 : tie.Need-part-same-end-3
-part-same-end-3 c = search needs
-
-same-requires-3 : tie.Need-same-requires-3
-same-requires-3 c κs = search needs
 
 returns-3 : tie.Need-returns-3
 unfolding piece
@@ -78,24 +36,4 @@ returns-4 c =
     (column-nowhere _ _ _ _ (sym (d .before .same .ensures) ∙ d .if1 .left) (rw add-one at (sym (e .before .same2 .ensures) ∙ e .if2 .left)) (rw add-one at (sym (c .before .same3 .ensures) ∙ c .if3 .left)))
 
 pub column-of-spec : {M : Type 1} → statement M
-column-of-spec =
-    tie.close
-    (tie.spec
-    sub-same
-    part-same-start
-    part-same-end
-    same-requires
-    returns
-    add-next
-    sub-same-2
-    part-same-start-2
-    part-same-end-2
-    same-requires-2
-    returns-2
-    add-last
-    sub-same-3
-    part-same-start-3
-    part-same-end-3
-    same-requires-3
-    returns-3
-    returns-4)
+column-of-spec = tie.close (tie.spec (λ c. search needs) (λ c. search needs) (λ c. search needs) (λ c κs. search needs) returns (λ c. search needs) (λ c. search needs) (λ c. search needs) (λ c. search needs) (λ c κs. search needs) returns-2 (λ c. search needs) (λ c. search needs) (λ c. search needs) (λ c. search needs) (λ c κs. search needs) returns-3 returns-4)

@@ -10,12 +10,6 @@ use Rattle.sheet_lines.proofs.LawsHeader.{header-not-parted, header-par
 use Rattle.sheet_lines.proofs.header.read_header.Statement.{statement}
 use Rattle.sheet_lines.proofs.header.read_header.Tie as tie
 
-parted-requires : tie.Need-parted-requires
-parted-requires c κs = search needs
-
-new-requires : tie.Need-new-requires
-new-requires c κs = search needs
-
 returns : tie.Need-returns
 returns c =
     let p = c .before .before .before .parted in
@@ -26,26 +20,14 @@ commas : (c : tie.Else1) →
     let r = c .before .before .parted .result in Apart (c .before .before .before .before .args .from) (c .before .before .before .before .args .to) (r .first) (r .second)
 commas c = c .before .before .parted .ensures .commas (not-false _ (c .if1 .left))
 
-slice-aggregate-column-of : tie.Need-slice-aggregate-column-of
-slice-aggregate-column-of c = search needs
-
 column-of-requires : tie.Need-column-of-requires
 column-of-requires c κs = (omega arith, commas (c .before))
-
-slice-aggregate-column-of-2 : tie.Need-slice-aggregate-column-of-2
-slice-aggregate-column-of-2 c = search needs
 
 column-of-requires-2 : tie.Need-column-of-requires-2
 column-of-requires-2 c κs = (omega arith, commas (c .before .before .before))
 
-slice-aggregate-column-of-3 : tie.Need-slice-aggregate-column-of-3
-slice-aggregate-column-of-3 c = search needs
-
 column-of-requires-3 : tie.Need-column-of-requires-3
 column-of-requires-3 c κs = (omega arith, commas (c .before .before .before .before .before))
-
-new-requires-2 : tie.Need-new-requires-2
-new-requires-2 c κs = search needs
 
 returns-2 : tie.Need-returns-2
 unfolding partWord nameWord valueWord
@@ -58,17 +40,4 @@ returns-2 c =
     (header-parted _ _ _ _ _ _ (d .before .before .parted .ensures .cells (not-false _ (d .if1 .left))) _ _ _ (p .column-of .ensures) (n .column-of2 .ensures) (v .column-of3 .ensures))
 
 pub read-header-spec : {M : Type 1} → statement M
-read-header-spec =
-    tie.close
-    (tie.spec
-    parted-requires
-    new-requires
-    returns
-    slice-aggregate-column-of
-    column-of-requires
-    slice-aggregate-column-of-2
-    column-of-requires-2
-    slice-aggregate-column-of-3
-    column-of-requires-3
-    new-requires-2
-    returns-2)
+read-header-spec = tie.close (tie.spec (λ c κs. search needs) (λ c κs. search needs) returns (λ c. search needs) column-of-requires (λ c. search needs) column-of-requires-2 (λ c. search needs) column-of-requires-3 (λ c κs. search needs) returns-2)

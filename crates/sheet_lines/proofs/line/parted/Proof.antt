@@ -8,28 +8,13 @@ use Rattle.sheet_lines.proofs.LawsCells.{not-read, one-cell, two-cells,
 use Rattle.sheet_lines.proofs.line.parted.Statement.{statement}
 use Rattle.sheet_lines.proofs.line.parted.Tie as tie
 
-end-of-requires : tie.Need-end-of-requires
-end-of-requires c κs = search needs
-
 returns : tie.Need-returns
 returns c = not-read _ _ _ _ _ refl (one-cell _ _ _ _ (c .before .end-of .ensures) (c .if1 .taken))
-
-add-end-of : tie.Need-add-end-of
-add-end-of c = search needs
-
-end-of-requires-2 : tie.Need-end-of-requires-2
-end-of-requires-2 c κs = search needs
 
 returns-2 : tie.Need-returns-2
 returns-2 c =
     let a = c .before .before .before .end-of in
     not-read _ _ _ _ _ refl (two-cells _ _ _ _ (a .ensures) (omega arith) _ (rw add-one at (c .before .end-of2 .ensures)) (c .if2 .taken))
-
-add-end-of-2 : tie.Need-add-end-of-2
-add-end-of-2 c = search needs
-
-end-of-requires-3 : tie.Need-end-of-requires-3
-end-of-requires-3 c κs = search needs
 
 returns-3 : tie.Need-returns-3
 returns-3 c =
@@ -45,15 +30,4 @@ returns-4 c =
     three-read _ _ _ _ (a .end-of .ensures) (omega arith) _ (rw add-one at (b .end-of2 .ensures)) (omega arith) _ (rw add-one at (c .before .end-of3 .ensures)) (omega arith)
 
 pub parted-spec : {M : Type 1} → statement M
-parted-spec =
-    tie.close
-    (tie.spec
-    end-of-requires
-    returns
-    add-end-of
-    end-of-requires-2
-    returns-2
-    add-end-of-2
-    end-of-requires-3
-    returns-3
-    returns-4)
+parted-spec = tie.close (tie.spec (λ c κs. search needs) returns (λ c. search needs) (λ c κs. search needs) returns-2 (λ c. search needs) (λ c κs. search needs) returns-3 returns-4)

@@ -5,11 +5,8 @@ use borrow.Author.Needs.{needs}
 use Rattle.sheet_lines.proofs.line.short.Statement.{statement}
 use Rattle.sheet_lines.proofs.line.short.Tie as tie
 
-sub-result : tie.Need-sub-result
-sub-result c = search needs
-
 returns : tie.Need-returns
 returns c = refl
 
 pub short-spec : {M : Type 1} → statement M
-short-spec = tie.close (tie.spec sub-result returns)
+short-spec = tie.close (tie.spec (λ c. search needs) returns)

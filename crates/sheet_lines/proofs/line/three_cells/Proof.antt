@@ -14,9 +14,6 @@ use Rattle.sheet_lines.proofs.LawsCells.{not-read, not-three, three-sho
 use Rattle.sheet_lines.proofs.line.three_cells.Statement.{statement}
 use Rattle.sheet_lines.proofs.line.three_cells.Tie as tie
 
-parted-requires : tie.Need-parted-requires
-parted-requires c κs = search needs
-
 returns : tie.Need-returns
 returns c =
     let p = c .before .before .parted in
@@ -88,17 +85,4 @@ returns-5 c =
     }
 
 pub three-cells-spec : {M : Type 1} → statement M
-three-cells-spec =
-    tie.close
-    (tie.spec
-    parted-requires
-    returns
-    short-requires
-    returns-2
-    add-short
-    short-requires-2
-    returns-3
-    add-short-2
-    short-requires-3
-    returns-4
-    returns-5)
+three-cells-spec = tie.close (tie.spec (λ c κs. search needs) returns short-requires returns-2 add-short short-requires-2 returns-3 add-short-2 short-requires-3 returns-4 returns-5)

@@ -6,12 +6,6 @@ use Rattle.sheet_lines.proofs.LawsRow.{cell-first, cell-second, cell-th
 use Rattle.sheet_lines.proofs.row.cell_at.Statement.{statement}
 use Rattle.sheet_lines.proofs.row.cell_at.Tie as tie
 
-add-t8 : tie.Need-add-t8
-add-t8 c = search needs
-
-add-t9 : tie.Need-add-t9
-add-t9 c = search needs
-
 returns : tie.Need-returns
 returns c = cell-first _ _ _ _ _ (c .before .pre) (c .match .keys1)
 
@@ -25,4 +19,4 @@ returns-4 : tie.Need-returns-4
 returns-4 c = let r = c .match .rest in cell-past _ _ _ _ _ (c .before .pre) (omega arith)
 
 pub cell-at-spec : {M : Type 1} → statement M
-cell-at-spec = tie.close (tie.spec add-t8 add-t9 returns returns-2 returns-3 returns-4)
+cell-at-spec = tie.close (tie.spec (λ c. search needs) (λ c. search needs) returns returns-2 returns-3 returns-4)

@@ -8,12 +8,6 @@ use Rattle.sheet_lines.proofs.LawsRow.{row-not-read, row-read}
 use Rattle.sheet_lines.proofs.row.row_in.Statement.{statement}
 use Rattle.sheet_lines.proofs.row.row_in.Tie as tie
 
-three-cells-requires : tie.Need-three-cells-requires
-three-cells-requires c κs = search needs
-
-new-requires : tie.Need-new-requires
-new-requires c κs = search needs
-
 returns : tie.Need-returns
 returns c =
     let p = c .before .before .before .three-cells in
@@ -33,9 +27,6 @@ cell-at-requires-2 c κs = commas (c .before)
 cell-at-requires-3 : tie.Need-cell-at-requires-3
 cell-at-requires-3 c κs = commas (c .before .before)
 
-new-requires-2 : tie.Need-new-requires-2
-new-requires-2 c κs = search needs
-
 returns-2 : tie.Need-returns-2
 returns-2 c =
     let v = c .before in
@@ -48,14 +39,4 @@ returns-2 c =
     (row-read _ _ _ _ _ _ _ _ _ (d .before .before .before .before .pre .1) (sym (t .told) ∙ r) (t .cells r) (p .cell-at .ensures) (n .cell-at2 .ensures) (v .cell-at3 .ensures))
 
 pub row-in-spec : {M : Type 1} → statement M
-row-in-spec =
-    tie.close
-    (tie.spec
-    three-cells-requires
-    new-requires
-    returns
-    cell-at-requires
-    cell-at-requires-2
-    cell-at-requires-3
-    new-requires-2
-    returns-2)
+row-in-spec = tie.close (tie.spec (λ c κs. search needs) (λ c κs. search needs) returns cell-at-requires cell-at-requires-2 cell-at-requires-3 (λ c κs. search needs) returns-2)

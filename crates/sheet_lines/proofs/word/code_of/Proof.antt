@@ -6,34 +6,16 @@ use Rattle.rules.specs.SheetRows.{codeOf}
 use Rattle.sheet_lines.proofs.word.code_of.Statement.{statement}
 use Rattle.sheet_lines.proofs.word.code_of.Tie as tie
 
-slice-aggregate-same : tie.Need-slice-aggregate-same
-slice-aggregate-same c = search needs
-
-same-requires : tie.Need-same-requires
-same-requires c κs = search needs
-
 returns : tie.Need-returns
 unfolding codeOf
 returns c =
     rw (sym (c .before .same .ensures) ∙ c .if1 .taken)
-
-slice-aggregate-same-2 : tie.Need-slice-aggregate-same-2
-slice-aggregate-same-2 c = search needs
-
-same-requires-2 : tie.Need-same-requires-2
-same-requires-2 c κs = search needs
 
 returns-2 : tie.Need-returns-2
 unfolding codeOf
 returns-2 c =
     let e1 = c .before .before .before in
     rw (sym (e1 .before .same .ensures) ∙ e1 .if1 .left, sym (c .before .same2 .ensures) ∙ c .if2 .taken)
-
-slice-aggregate-same-3 : tie.Need-slice-aggregate-same-3
-slice-aggregate-same-3 c = search needs
-
-same-requires-3 : tie.Need-same-requires-3
-same-requires-3 c κs = search needs
 
 returns-3 : tie.Need-returns-3
 unfolding codeOf
@@ -42,12 +24,6 @@ returns-3 c =
     let e1 = e2 .before .before .before in
     rw (sym (e1 .before .same .ensures) ∙ e1 .if1 .left, sym (e2 .before .same2 .ensures) ∙ e2 .if2 .left, sym (c .before .same3 .ensures) ∙ c .if3 .taken)
 
-slice-aggregate-same-4 : tie.Need-slice-aggregate-same-4
-slice-aggregate-same-4 c = search needs
-
-same-requires-4 : tie.Need-same-requires-4
-same-requires-4 c κs = search needs
-
 returns-4 : tie.Need-returns-4
 unfolding codeOf
 returns-4 c =
@@ -55,12 +31,6 @@ returns-4 c =
     let e2 = e3 .before .before .before in
     let e1 = e2 .before .before .before in
     rw (sym (e1 .before .same .ensures) ∙ e1 .if1 .left, sym (e2 .before .same2 .ensures) ∙ e2 .if2 .left, sym (e3 .before .same3 .ensures) ∙ e3 .if3 .left, sym (c .before .same4 .ensures) ∙ c .if4 .taken)
-
-slice-aggregate-same-5 : tie.Need-slice-aggregate-same-5
-slice-aggregate-same-5 c = search needs
-
-same-requires-5 : tie.Need-same-requires-5
-same-requires-5 c κs = search needs
 
 returns-5 : tie.Need-returns-5
 unfolding codeOf
@@ -71,12 +41,6 @@ returns-5 c =
     let e1 = e2 .before .before .before in
     rw (sym (e1 .before .same .ensures) ∙ e1 .if1 .left, sym (e2 .before .same2 .ensures) ∙ e2 .if2 .left, sym (e3 .before .same3 .ensures) ∙ e3 .if3 .left, sym (e4 .before .same4 .ensures) ∙ e4 .if4 .left, sym (c .before .same5 .ensures) ∙ c .if5 .taken)
 
-slice-aggregate-same-6 : tie.Need-slice-aggregate-same-6
-slice-aggregate-same-6 c = search needs
-
-same-requires-6 : tie.Need-same-requires-6
-same-requires-6 c κs = search needs
-
 returns-6 : tie.Need-returns-6
 unfolding codeOf
 returns-6 c =
@@ -86,12 +50,6 @@ returns-6 c =
     let e2 = e3 .before .before .before in
     let e1 = e2 .before .before .before in
     rw (sym (e1 .before .same .ensures) ∙ e1 .if1 .left, sym (e2 .before .same2 .ensures) ∙ e2 .if2 .left, sym (e3 .before .same3 .ensures) ∙ e3 .if3 .left, sym (e4 .before .same4 .ensures) ∙ e4 .if4 .left, sym (e5 .before .same5 .ensures) ∙ e5 .if5 .left, sym (c .before .same6 .ensures) ∙ c .if6 .taken)
-
-slice-aggregate-same-7 : tie.Need-slice-aggregate-same-7
-slice-aggregate-same-7 c = search needs
-
-same-requires-7 : tie.Need-same-requires-7
-same-requires-7 c κs = search needs
 
 returns-7 : tie.Need-returns-7
 unfolding codeOf
@@ -116,28 +74,4 @@ returns-8 c =
     rw (sym (e1 .before .same .ensures) ∙ e1 .if1 .left, sym (e2 .before .same2 .ensures) ∙ e2 .if2 .left, sym (e3 .before .same3 .ensures) ∙ e3 .if3 .left, sym (e4 .before .same4 .ensures) ∙ e4 .if4 .left, sym (e5 .before .same5 .ensures) ∙ e5 .if5 .left, sym (e6 .before .same6 .ensures) ∙ e6 .if6 .left, sym (c .before .same7 .ensures) ∙ c .if7 .left)
 
 pub code-of-spec : {M : Type 1} → statement M
-code-of-spec =
-    tie.close
-    (tie.spec
-    slice-aggregate-same
-    same-requires
-    returns
-    slice-aggregate-same-2
-    same-requires-2
-    returns-2
-    slice-aggregate-same-3
-    same-requires-3
-    returns-3
-    slice-aggregate-same-4
-    same-requires-4
-    returns-4
-    slice-aggregate-same-5
-    same-requires-5
-    returns-5
-    slice-aggregate-same-6
-    same-requires-6
-    returns-6
-    slice-aggregate-same-7
-    same-requires-7
-    returns-7
-    returns-8)
+code-of-spec = tie.close (tie.spec (λ c. search needs) (λ c κs. search needs) returns (λ c. search needs) (λ c κs. search needs) returns-2 (λ c. search needs) (λ c κs. search needs) returns-3 (λ c. search needs) (λ c κs. search needs) returns-4 (λ c. search needs) (λ c κs. search needs) returns-5 (λ c. search needs) (λ c κs. search needs) returns-6 (λ c. search needs) (λ c κs. search needs) returns-7 returns-8)

@@ -5,15 +5,9 @@ use Rattle.rules.specs.SheetRows.{isDef}
 use Rattle.sheet_lines.proofs.word.is_def.Statement.{statement}
 use Rattle.sheet_lines.proofs.word.is_def.Tie as tie
 
-slice-aggregate-same : tie.Need-slice-aggregate-same
-slice-aggregate-same c = search needs
-
-same-requires : tie.Need-same-requires
-same-requires c κs = search needs
-
 returns : tie.Need-returns
 unfolding isDef
 returns c = λ row e. rw e (c .same .ensures)
 
 pub is-def-spec : {M : Type 1} → statement M
-is-def-spec = tie.close (tie.spec slice-aggregate-same same-requires returns)
+is-def-spec = tie.close (tie.spec (λ c. search needs) (λ c κs. search needs) returns)

@@ -5,15 +5,9 @@ use Rattle.rules.specs.SheetRows.{isDict}
 use Rattle.sheet_lines.proofs.word.is_dict.Statement.{statement}
 use Rattle.sheet_lines.proofs.word.is_dict.Tie as tie
 
-slice-aggregate-same : tie.Need-slice-aggregate-same
-slice-aggregate-same c = search needs
-
-same-requires : tie.Need-same-requires
-same-requires c κs = search needs
-
 returns : tie.Need-returns
 unfolding isDict
 returns c = c .same .ensures
 
 pub is-dict-spec : {M : Type 1} → statement M
-is-dict-spec = tie.close (tie.spec slice-aggregate-same same-requires returns)
+is-dict-spec = tie.close (tie.spec (λ c. search needs) (λ c κs. search needs) returns)

@@ -5,15 +5,9 @@ use Rattle.rules.specs.SheetRows.{isOther}
 use Rattle.sheet_lines.proofs.word.is_other.Statement.{statement}
 use Rattle.sheet_lines.proofs.word.is_other.Tie as tie
 
-slice-aggregate-same : tie.Need-slice-aggregate-same
-slice-aggregate-same c = search needs
-
-same-requires : tie.Need-same-requires
-same-requires c κs = search needs
-
 returns : tie.Need-returns
 unfolding isOther
 returns c = c .same .ensures
 
 pub is-other-spec : {M : Type 1} → statement M
-is-other-spec = tie.close (tie.spec slice-aggregate-same same-requires returns)
+is-other-spec = tie.close (tie.spec (λ c. search needs) (λ c κs. search needs) returns)

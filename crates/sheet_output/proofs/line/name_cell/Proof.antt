@@ -10,48 +10,18 @@ use borrow.Author.Needs.{needs}
 use Rattle.sheet_output.proofs.line.name_cell.Statement.{statement}
 use Rattle.sheet_output.proofs.line.name_cell.Tie as tie
 
-is-plain-requires : tie.Need-is-plain-requires
-is-plain-requires c κs = search needs
-
-name-in-requires : tie.Need-name-in-requires
-name-in-requires c κs = search needs
-
-slice-aggregate-text-cell : tie.Need-slice-aggregate-text-cell
-slice-aggregate-text-cell c = search needs
-
 text-cell-requires : tie.Need-text-cell-requires
 text-cell-requires c κs = let a = c .before .before .before .before .before .before .before .args in omega (arith, ap length (c .before .before .name-in .ensures), shownName-length (a .spec .now) (a .name))
-
-same-length : tie.Need-same-length
-same-length c = search needs
 
 returns : tie.Need-returns
 returns c =
     let a = c .before .before .before .before .before .before .before .before .before .before .args in
     put-same _ _ (ap (λ l. l ++ (44 ∷ [])) (c .before .before .before .before .before .name-in .ensures ∙ sym (nameFor-plain (a .code) (shownName (a .spec .now) (a .name)) (sym (c .before .before .before .before .before .before .before .is-plain .ensures) ∙ c .before .before .before .before .before .before .if1 .taken)))) (c .before .before .text-cell .ensures)
 
-slice-aggregate-write-bytes : tie.Need-slice-aggregate-write-bytes
-slice-aggregate-write-bytes c = search needs
-
-write-bytes-requires : tie.Need-write-bytes-requires
-write-bytes-requires c κs = search needs
-
-same-length-2 : tie.Need-same-length-2
-same-length-2 c = search needs
-
 returns-2 : tie.Need-returns-2
 returns-2 c =
     let a = c .before .before .before .before .before .before .before .before .before .before .args in
     put-same _ _ (ap (λ l. l ++ (44 ∷ [])) (sym (nameFor-args (a .code) (shownName (a .spec .now) (a .name)) (c .before .before .before .before .before .if2 .taken)))) (c .before .before .write-bytes .ensures)
-
-slice-aggregate-write-bytes-2 : tie.Need-slice-aggregate-write-bytes-2
-slice-aggregate-write-bytes-2 c = search needs
-
-write-bytes-requires-2 : tie.Need-write-bytes-requires-2
-write-bytes-requires-2 c κs = search needs
-
-same-length-3 : tie.Need-same-length-3
-same-length-3 c = search needs
 
 returns-3 : tie.Need-returns-3
 returns-3 c =
@@ -59,4 +29,4 @@ returns-3 c =
     put-same _ _ (ap (λ l. l ++ (44 ∷ [])) (sym (nameFor-kwargs (a .code) (shownName (a .spec .now) (a .name)) (sym (c .before .before .before .before .before .before .before .is-plain .ensures) ∙ c .before .before .before .before .before .before .if1 .left) (c .before .before .before .before .before .if2 .left)))) (c .before .before .write-bytes2 .ensures)
 
 pub name-cell-spec : {M : Type 1} → statement M
-name-cell-spec = tie.close (tie.spec is-plain-requires name-in-requires slice-aggregate-text-cell text-cell-requires same-length returns slice-aggregate-write-bytes write-bytes-requires same-length-2 returns-2 slice-aggregate-write-bytes-2 write-bytes-requires-2 same-length-3 returns-3)
+name-cell-spec = tie.close (tie.spec (λ c κs. search needs) (λ c κs. search needs) (λ c. search needs) text-cell-requires (λ c. search needs) returns (λ c. search needs) (λ c κs. search needs) (λ c. search needs) returns-2 (λ c. search needs) (λ c κs. search needs) (λ c. search needs) returns-3)

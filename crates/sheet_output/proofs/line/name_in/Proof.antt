@@ -5,21 +5,6 @@ use borrow.Author.Needs.{needs}
 use Rattle.sheet_output.proofs.line.name_in.Statement.{statement}
 use Rattle.sheet_output.proofs.line.name_in.Tie as tie
 
-read-text-requires : tie.Need-read-text-requires
-read-text-requires c κs = search needs
-
-enum-told : tie.Need-enum-told
-enum-told c = search needs
-
-part-requires : tie.Need-part-requires
-part-requires c κs = search needs
-
-enum-told-2 : tie.Need-enum-told-2
-enum-told-2 c = search needs
-
-slice-aggregate-result : tie.Need-slice-aggregate-result
-slice-aggregate-result c = search needs
-
 returns : tie.Need-returns
 returns c = let a = c .before .before .before .before .before .args in c .part .ensures ∙ name-shown (a .area .now) (a .payload) _ (sym (c .before .before .before .read-text .ensures) ∙ c .before .enum-told .given .1)
 
@@ -27,4 +12,4 @@ returns-2 : tie.Need-returns-2
 returns-2 c = let a = c .before .before .before .before .before .args in name-hidden (a .area .now) (a .payload) (sym (c .before .before .before .read-text .ensures) ∙ c .before .enum-told2 .given .1)
 
 pub name-in-spec : {M : Type 1} → statement M
-name-in-spec = tie.close (tie.spec read-text-requires enum-told part-requires enum-told-2 slice-aggregate-result returns returns-2)
+name-in-spec = tie.close (tie.spec (λ c κs. search needs) (λ c. search needs) (λ c κs. search needs) (λ c. search needs) (λ c. search needs) returns returns-2)

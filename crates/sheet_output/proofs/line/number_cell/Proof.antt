@@ -7,14 +7,8 @@ use borrow.Author.Needs.{needs}
 use Rattle.sheet_output.proofs.line.number_cell.Statement.{statement}
 use Rattle.sheet_output.proofs.line.number_cell.Tie as tie
 
-write-decimal-requires : tie.Need-write-decimal-requires
-write-decimal-requires c κs = search needs
-
 write-bytes-requires : tie.Need-write-bytes-requires
 write-bytes-requires c κs = omega (arith, decimal-length (c .before .before .before .before .before .before .before .args .n))
-
-same-length : tie.Need-same-length
-same-length c = search needs
 
 returns : tie.Need-returns
 returns c =
@@ -22,4 +16,4 @@ returns c =
     put-both (decimal (a .n)) (a .end .now) (a .at) (a .out .now) (omega (arith, c .before .before .before .before .before .before .before .before .before .before .pre, decimal-length (a .n))) _ _ _ _ (c .before .before .before .before .before .before .write-decimal .ensures) (c .before .before .write-bytes .ensures)
 
 pub number-cell-spec : {M : Type 1} → statement M
-number-cell-spec = tie.close (tie.spec write-decimal-requires write-bytes-requires same-length returns)
+number-cell-spec = tie.close (tie.spec (λ c κs. search needs) write-bytes-requires (λ c. search needs) returns)

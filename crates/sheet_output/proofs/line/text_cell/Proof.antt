@@ -5,19 +5,10 @@ use borrow.Author.Needs.{needs}
 use Rattle.sheet_output.proofs.line.text_cell.Statement.{statement}
 use Rattle.sheet_output.proofs.line.text_cell.Tie as tie
 
-write-bytes-requires : tie.Need-write-bytes-requires
-write-bytes-requires c κs = search needs
-
-write-bytes-requires-2 : tie.Need-write-bytes-requires-2
-write-bytes-requires-2 c κs = search needs
-
-same-length : tie.Need-same-length
-same-length c = search needs
-
 returns : tie.Need-returns
 returns c =
     let a = c .before .before .before .before .before .before .before .before .before .before .before .args in
     put-both (a .text .now) (a .end .now) (a .at) (a .out .now) (omega (arith, c .before .before .before .before .before .before .before .before .before .before .before .pre)) _ _ _ _ (c .before .before .before .before .before .before .write-bytes .ensures) (c .before .before .write-bytes2 .ensures)
 
 pub text-cell-spec : {M : Type 1} → statement M
-text-cell-spec = tie.close (tie.spec write-bytes-requires write-bytes-requires-2 same-length returns)
+text-cell-spec = tie.close (tie.spec (λ c κs. search needs) (λ c κs. search needs) (λ c. search needs) returns)

@@ -9,22 +9,10 @@ use borrow.Author.Needs.{needs}
 use Rattle.sheet_output.proofs.line.write_shown.Statement.{statement}
 use Rattle.sheet_output.proofs.line.write_shown.Tie as tie
 
-read-slot-requires : tie.Need-read-slot-requires
-read-slot-requires c κs = search needs
-
-enum-known-v : tie.Need-enum-known-v
-enum-known-v c = search needs
-
 write-value-requires : tie.Need-write-value-requires
 write-value-requires c κs =
     let a = c .before .before .before .before .before .before .before .before .args in
     (search needs, value-inside (a .spec .now) (a .call .now) (a .kind) (a .payload) _ (sym (c .before .before .before .before .read-slot .ensures) ∙ c .before .before .v .given .1))
-
-enum-told : tie.Need-enum-told
-enum-told c = search needs
-
-same-length : tie.Need-same-length
-same-length c = search needs
 
 returns : tie.Need-returns
 returns c =
@@ -41,4 +29,4 @@ returns-2 c =
     (omega (arith, c .before .before .before .before .before .before .pre, shownValue-length (a .spec .now) (a .call .now) (value (a .kind) (a .payload))))
 
 pub write-shown-spec : {M : Type 1} → statement M
-write-shown-spec = tie.close (tie.spec read-slot-requires enum-known-v write-value-requires enum-told same-length returns returns-2)
+write-shown-spec = tie.close (tie.spec (λ c κs. search needs) (λ c. search needs) write-value-requires (λ c. search needs) (λ c. search needs) returns returns-2)

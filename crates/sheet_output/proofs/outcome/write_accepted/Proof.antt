@@ -43,9 +43,6 @@ write-closing-requires c κs =
       c .before .before .before .write-remainders .ensures .1,
     )
 
-same-length : tie.Need-same-length
-same-length c = search needs
-
 returns : tie.Need-returns
 returns c =
     let a = c .before .before .before .before .before .before .before .before .before .before .before .before .before .before .before .before .before .before .before .before .before .before .before .args in
@@ -53,4 +50,4 @@ returns c =
     (c .before .before .before .before .before .before .before .before .before .before .before .before .before .before .write-heading .ensures) (c .before .before .before .before .before .before .before .before .before .before .write-slots .ensures) (c .before .before .before .before .before .before .write-remainders .ensures .0) (c .before .before .write-closing .ensures)
 
 pub write-accepted-spec : {M : Type 1} → statement M
-write-accepted-spec = tie.close (tie.spec mul-from mul-t14 add-t15 write-heading-requires write-slots-requires write-remainders-requires write-closing-requires same-length returns)
+write-accepted-spec = tie.close (tie.spec mul-from mul-t14 add-t15 write-heading-requires write-slots-requires write-remainders-requires write-closing-requires (λ c. search needs) returns)

@@ -8,20 +8,8 @@ use borrow.Author.Needs.{needs}
 use Rattle.sheet_output.proofs.outcome.write_closing.Statement.{statement}
 use Rattle.sheet_output.proofs.outcome.write_closing.Tie as tie
 
-slice-aggregate-write-count : tie.Need-slice-aggregate-write-count
-slice-aggregate-write-count c = search needs
-
-write-count-requires : tie.Need-write-count-requires
-write-count-requires c κs = search needs
-
-slice-aggregate-write-count-2 : tie.Need-slice-aggregate-write-count-2
-slice-aggregate-write-count-2 c = search needs
-
 write-count-requires-2 : tie.Need-write-count-requires-2
 write-count-requires-2 c κs = let a = c .before .before .before .before .before .before .before .before .args in omega (arith, c .before .before .before .before .before .before .before .before .pre, count-length (116 ∷ 97 ∷ 107 ∷ 101 ∷ 110 ∷ []) (a .taken))
-
-same-length : tie.Need-same-length
-same-length c = search needs
 
 returns : tie.Need-returns
 unfolding closing
@@ -32,4 +20,4 @@ returns c =
     _ _ _ _ (c .before .before .before .before .before .before .before .write-count .ensures) (c .before .before .write-count2 .ensures)
 
 pub write-closing-spec : {M : Type 1} → statement M
-write-closing-spec = tie.close (tie.spec slice-aggregate-write-count write-count-requires slice-aggregate-write-count-2 write-count-requires-2 same-length returns)
+write-closing-spec = tie.close (tie.spec (λ c. search needs) (λ c κs. search needs) (λ c. search needs) write-count-requires-2 (λ c. search needs) returns)

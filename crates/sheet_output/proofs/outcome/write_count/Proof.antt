@@ -12,20 +12,8 @@ use borrow.Author.Needs.{needs}
 use Rattle.sheet_output.proofs.outcome.write_count.Statement.{statement}
 use Rattle.sheet_output.proofs.outcome.write_count.Tie as tie
 
-slice-aggregate-text-cell : tie.Need-slice-aggregate-text-cell
-slice-aggregate-text-cell c = search needs
-
-text-cell-requires : tie.Need-text-cell-requires
-text-cell-requires c κs = search needs
-
-slice-aggregate-number-cell : tie.Need-slice-aggregate-number-cell
-slice-aggregate-number-cell c = search needs
-
 number-cell-requires : tie.Need-number-cell-requires
 number-cell-requires c κs = let a = c .before .before .before .before .before .before .before .before .before .args in omega (arith, c .before .before .before .before .before .before .before .before .before .pre, length-append (a .word .now) (44 ∷ []))
-
-same-length : tie.Need-same-length
-same-length c = search needs
 
 returns : tie.Need-returns
 unfolding countLine line
@@ -37,4 +25,4 @@ returns c =
     (omega (arith, start .pre, decimal-length (a .n), length-append (a .word .now) (44 ∷ []), length-append (decimal (a .n)) (44 ∷ 10 ∷ []))) _ _ _ _ (c .before .before .before .before .before .before .before .text-cell .ensures) (c .before .before .number-cell .ensures))
 
 pub write-count-spec : {M : Type 1} → statement M
-write-count-spec = tie.close (tie.spec slice-aggregate-text-cell text-cell-requires slice-aggregate-number-cell number-cell-requires same-length returns)
+write-count-spec = tie.close (tie.spec (λ c. search needs) (λ c κs. search needs) (λ c. search needs) number-cell-requires (λ c. search needs) returns)

@@ -8,14 +8,8 @@ use borrow.Author.Needs.{needs}
 use Rattle.sheet_output.proofs.outcome.write_ending.Statement.{statement}
 use Rattle.sheet_output.proofs.outcome.write_ending.Tie as tie
 
-enum-known-answer : tie.Need-enum-known-answer
-enum-known-answer c = search needs
-
 write-accepted-requires : tie.Need-write-accepted-requires
 write-accepted-requires c κs = (c .before .before .before .before .before .before .before .before .pre .limits _ (c .before .before .answer .given .1), c .before .before .before .before .before .before .before .before .pre .room)
-
-enum-known-answer-2 : tie.Need-enum-known-answer-2
-enum-known-answer-2 c = search needs
 
 write-refused-count-requires : tie.Need-write-refused-count-requires
 write-refused-count-requires c κs = omega (arith, c .before .before .before .before .before .before .before .before .pre .room)
@@ -23,20 +17,11 @@ write-refused-count-requires c κs = omega (arith, c .before .before .before .be
 write-refused-requires : tie.Need-write-refused-requires
 write-refused-requires c κs = omega (arith, c .before .before .before .before .before .before .pre .room)
 
-same-length : tie.Need-same-length
-same-length c = search needs
-
 returns : tie.Need-returns
 returns c = let a = c .before .before .before .before .before .before .before .before .before .before .before .args in put-same _ _ (sym (ap (outcomeShown (a .spec .now) (a .call .now) (a .list .params) (a .board .now)) (c .before .before .before .before .before .answer .given .1))) (c .before .before .write-accepted .ensures)
 
-same-length-2 : tie.Need-same-length-2
-same-length-2 c = search needs
-
 returns-2 : tie.Need-returns-2
 returns-2 c = let a = c .before .before .before .before .before .before .before .before .before .before .before .args in put-same _ _ (sym (ap (outcomeShown (a .spec .now) (a .call .now) (a .list .params) (a .board .now)) (c .before .before .before .before .before .answer2 .given .1))) (c .before .before .write-refused-count .ensures)
-
-same-length-3 : tie.Need-same-length-3
-same-length-3 c = search needs
 
 returns-3 : tie.Need-returns-3
 returns-3 c =
@@ -44,4 +29,4 @@ returns-3 c =
     put-same _ _ (refusal-shown (a .spec .now) (a .call .now) (a .list .params) (a .board .now) (a .answer) (c .before .before .before .before .match .keys3)) (c .before .before .write-refused .ensures)
 
 pub write-ending-spec : {M : Type 1} → statement M
-write-ending-spec = tie.close (tie.spec enum-known-answer write-accepted-requires enum-known-answer-2 write-refused-count-requires write-refused-requires same-length returns same-length-2 returns-2 same-length-3 returns-3)
+write-ending-spec = tie.close (tie.spec (λ c. search needs) write-accepted-requires (λ c. search needs) write-refused-count-requires write-refused-requires (λ c. search needs) returns (λ c. search needs) returns-2 (λ c. search needs) returns-3)

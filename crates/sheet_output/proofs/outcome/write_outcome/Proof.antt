@@ -5,12 +5,6 @@ use borrow.Author.Needs.{needs}
 use Rattle.sheet_output.proofs.outcome.write_outcome.Statement.{statement}
 use Rattle.sheet_output.proofs.outcome.write_outcome.Tie as tie
 
-write-ending-requires : tie.Need-write-ending-requires
-write-ending-requires c κs = search needs
-
-same-length : tie.Need-same-length
-same-length c = search needs
-
 returns : tie.Need-returns
 returns c =
     let a = c .before .before .before .before .before .before .before .before .args in
@@ -18,4 +12,4 @@ returns c =
     put-same _ _ (outcome-shown (a .spec .now) (a .call .now) (a .list) (a .board .now) (a .answer) qs P N asked before ready) (c .before .before .write-ending .ensures)
 
 pub write-outcome-spec : {M : Type 1} → statement M
-write-outcome-spec = tie.close (tie.spec write-ending-requires same-length returns)
+write-outcome-spec = tie.close (tie.spec (λ c κs. search needs) (λ c. search needs) returns)

@@ -8,14 +8,8 @@ use Rattle.sheet_output.proofs.outcome.write_refusal.Tie as tie
 write-number-requires : tie.Need-write-number-requires
 write-number-requires c κs = omega (arith, c .before .before .before .pre)
 
-slice-aggregate-text-cell : tie.Need-slice-aggregate-text-cell
-slice-aggregate-text-cell c = search needs
-
 text-cell-requires : tie.Need-text-cell-requires
 text-cell-requires c κs = let a = c .before .before .before .before .before .before .before .before .args in omega (arith, c .before .before .before .before .before .before .before .before .pre, cells-length (a .number))
-
-same-length : tie.Need-same-length
-same-length c = search needs
 
 returns : tie.Need-returns
 returns c =
@@ -23,4 +17,4 @@ returns c =
     refusal-put (a .number) (a .detail .now) (a .out .now) _ _ _ _ (omega (arith, c .before .before .before .before .before .before .before .before .before .before .before .pre)) (c .before .before .before .before .before .before .before .write-number .ensures) (c .before .before .text-cell .ensures)
 
 pub write-refusal-spec : {M : Type 1} → statement M
-write-refusal-spec = tie.close (tie.spec write-number-requires slice-aggregate-text-cell text-cell-requires same-length returns)
+write-refusal-spec = tie.close (tie.spec write-number-requires (λ c. search needs) text-cell-requires (λ c. search needs) returns)

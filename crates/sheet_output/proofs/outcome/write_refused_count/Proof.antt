@@ -7,17 +7,8 @@ use borrow.Author.Needs.{needs}
 use Rattle.sheet_output.proofs.outcome.write_refused_count.Statement.{statement}
 use Rattle.sheet_output.proofs.outcome.write_refused_count.Tie as tie
 
-write-number-requires : tie.Need-write-number-requires
-write-number-requires c κs = search needs
-
-slice-aggregate-number-cell : tie.Need-slice-aggregate-number-cell
-slice-aggregate-number-cell c = search needs
-
 number-cell-requires : tie.Need-number-cell-requires
 number-cell-requires c κs = let a = c .before .before .before .before .before .before .before .args in omega (arith, c .before .before .before .before .before .before .before .pre, cells-length (a .number))
-
-same-length : tie.Need-same-length
-same-length c = search needs
 
 returns : tie.Need-returns
 returns c =
@@ -25,4 +16,4 @@ returns c =
     refusal-put (a .number) (decimal (a .n)) (a .out .now) _ _ _ _ (omega (arith, c .before .before .before .before .before .before .before .before .before .before .pre, decimal-length (a .n))) (c .before .before .before .before .before .before .before .write-number .ensures) (c .before .before .number-cell .ensures)
 
 pub write-refused-count-spec : {M : Type 1} → statement M
-write-refused-count-spec = tie.close (tie.spec write-number-requires slice-aggregate-number-cell number-cell-requires same-length returns)
+write-refused-count-spec = tie.close (tie.spec (λ c κs. search needs) (λ c. search needs) number-cell-requires (λ c. search needs) returns)

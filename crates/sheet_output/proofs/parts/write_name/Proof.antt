@@ -12,26 +12,11 @@ use borrow.Author.Needs.{needs}
 use Rattle.sheet_output.proofs.parts.write_name.Statement.{statement}
 use Rattle.sheet_output.proofs.parts.write_name.Tie as tie
 
-slice-aggregate-write-bytes : tie.Need-slice-aggregate-write-bytes
-slice-aggregate-write-bytes c = search needs
-
-write-bytes-requires : tie.Need-write-bytes-requires
-write-bytes-requires c κs = search needs
-
-name-in-requires : tie.Need-name-in-requires
-name-in-requires c κs = search needs
-
-slice-aggregate-text-cell : tie.Need-slice-aggregate-text-cell
-slice-aggregate-text-cell c = search needs
-
 text-cell-requires : tie.Need-text-cell-requires
 text-cell-requires c κs = let a = c .before .before .before .before .before .before .before .before .before .before .before .args in omega (arith, c .before .before .before .before .before .before .before .before .before .before .before .pre, ap length (c .before .before .name-in .ensures), shownName-length (a .call .now) (a .key .payload))
 
 value-cell-requires : tie.Need-value-cell-requires
 value-cell-requires c κs = let a = c .before .before .before .before .before .before .before .before .before .before .before .before .before .before .before .args in omega (arith, c .before .before .before .before .before .before .before .before .before .before .before .before .before .before .before .pre, ap length (c .before .before .before .before .before .before .name-in .ensures), shownName-length (a .call .now) (a .key .payload), length-append (c .before .before .before .before .before .before .name-in .result .now) (44 ∷ []))
-
-same-length : tie.Need-same-length
-same-length c = search needs
 
 returns : tie.Need-returns
 unfolding namedLine
@@ -43,4 +28,4 @@ returns c =
     (put-same _ _ (ap (λ l. l ++ (44 ∷ [])) (c .before .before .before .before .before .before .before .before .before .name-in .ensures)) (c .before .before .before .before .before .before .text-cell .ensures)) (c .before .before .value-cell .ensures)
 
 pub write-name-spec : {M : Type 1} → statement M
-write-name-spec = tie.close (tie.spec slice-aggregate-write-bytes write-bytes-requires name-in-requires slice-aggregate-text-cell text-cell-requires value-cell-requires same-length returns)
+write-name-spec = tie.close (tie.spec (λ c. search needs) (λ c κs. search needs) (λ c κs. search needs) (λ c. search needs) text-cell-requires value-cell-requires (λ c. search needs) returns)

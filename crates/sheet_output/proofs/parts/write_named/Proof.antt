@@ -30,14 +30,8 @@ mul-key c = omega (arith, c .loop-test .taken, c .before .before .before .before
 add-key : tie.Need-add-key Inv-loop μ-loop
 add-key c = omega (arith, c .loop-test .taken, c .before .before .before .before .before .before .pre .0, c .before .before .before .before .before .before .pre .1)
 
-pair-at-requires : tie.Need-pair-at-requires Inv-loop μ-loop
-pair-at-requires c κs = search needs
-
 add-pair-at : tie.Need-add-pair-at Inv-loop μ-loop
 add-pair-at c = omega (arith, c .before .loop-test .taken, c .before .before .before .before .before .before .before .pre .0, c .before .before .before .before .before .before .before .pre .1)
-
-pair-at-requires-2 : tie.Need-pair-at-requires-2 Inv-loop μ-loop
-pair-at-requires-2 c κs = search needs
 
 write-name-requires : tie.Need-write-name-requires Inv-loop μ-loop
 write-name-requires c κs =
@@ -50,12 +44,6 @@ write-name-requires c κs =
       l .inv .1,
       lines-end (namedLineAt (a .spec .now) (a .call .now) (a .board .now) (a .from)) 137 (named-short (a .spec .now) (a .call .now) (a .board .now) (a .from)) (l .k) (a .at) (a .out .now) (l .out) (l .end) (l .inv .2),
     )
-
-add-k : tie.Need-add-k Inv-loop μ-loop
-add-k c = search needs
-
-loop-less : tie.Need-loop-less Inv-loop μ-loop
-loop-less c = search needs
 
 loop-again : tie.Need-loop-again Inv-loop μ-loop
 unfolding namedLineAt
@@ -80,4 +68,4 @@ returns c =
     put-same _ _ (ap (linesTo (namedLineAt (a .spec .now) (a .call .now) (a .board .now) (a .from))) whole) (l .inv .2)
 
 pub write-named-spec : {M : Type 1} → statement M
-write-named-spec = tie.close (tie.spec Inv-loop μ-loop loop-holds mul-key add-key pair-at-requires add-pair-at pair-at-requires-2 write-name-requires add-k loop-less loop-again same-length returns)
+write-named-spec = tie.close (tie.spec Inv-loop μ-loop loop-holds mul-key add-key (λ c κs. search needs) add-pair-at (λ c κs. search needs) write-name-requires (λ c. search needs) (λ c. search needs) loop-again same-length returns)

@@ -15,9 +15,6 @@ write-remainder-requires-2 c κs =
     let a = c .before .before .before .before .before .before .before .before .before .args in
     (c .before .before .before .before .before .before .before .before .before .pre .1, omega (arith, c .before .before .before .before .before .before .before .before .before .pre .2, remainder-length (a .spec .now) (a .call .now) (a .board .now) (a .first)))
 
-same-length : tie.Need-same-length
-same-length c = search needs
-
 returns : tie.Need-returns
 returns c =
     let a = c .before .before .before .before .before .before .before .before .before .before .before .before .args in
@@ -27,4 +24,4 @@ returns c =
     (both, omega (arith, c .before .before .before .before .before .before .write-remainder .ensures .ends, c .before .before .write-remainder2 .ensures .ends, remainder-length (a .spec .now) (a .call .now) (a .board .now) (a .first), remainder-length (a .spec .now) (a .call .now) (a .board .now) (a .second)))
 
 pub write-remainders-spec : {M : Type 1} → statement M
-write-remainders-spec = tie.close (tie.spec write-remainder-requires write-remainder-requires-2 same-length returns)
+write-remainders-spec = tie.close (tie.spec write-remainder-requires write-remainder-requires-2 (λ c. search needs) returns)

@@ -12,12 +12,6 @@ use borrow.Author.Needs.{needs}
 use Rattle.sheet_output.proofs.parts.write_slot.Statement.{statement}
 use Rattle.sheet_output.proofs.parts.write_slot.Tie as tie
 
-slice-aggregate-number-cell : tie.Need-slice-aggregate-number-cell
-slice-aggregate-number-cell c = search needs
-
-number-cell-requires : tie.Need-number-cell-requires
-number-cell-requires c κs = search needs
-
 name-cell-requires : tie.Need-name-cell-requires
 name-cell-requires c κs = let a = c .before .before .before .before .before .before .before .before .before .args in omega (arith, c .before .before .before .before .before .before .before .before .before .pre, decimal-length (a .i), length-append (decimal (a .i)) (44 ∷ []))
 
@@ -32,9 +26,6 @@ held-cell-requires c κs =
       length-append (nameFor (a .code) (shownName (a .spec .now) (a .name))) (44 ∷ []),
       nameFor-length (a .code) (shownName (a .spec .now) (a .name)) (shownName-length (a .spec .now) (a .name)),
     )
-
-same-length : tie.Need-same-length
-same-length c = search needs
 
 returns : tie.Need-returns
 unfolding slotLine
@@ -52,4 +43,4 @@ returns c =
     _ _ _ _ _ _ (c .before .before .before .before .before .before .before .before .before .before .number-cell .ensures) (c .before .before .before .before .before .before .name-cell .ensures) (c .before .before .held-cell .ensures)
 
 pub write-slot-spec : {M : Type 1} → statement M
-write-slot-spec = tie.close (tie.spec slice-aggregate-number-cell number-cell-requires name-cell-requires held-cell-requires same-length returns)
+write-slot-spec = tie.close (tie.spec (λ c. search needs) (λ c κs. search needs) name-cell-requires held-cell-requires (λ c. search needs) returns)

@@ -24,21 +24,6 @@ loop-holds c =
     let a = c .before .before .before .before .args in
     (search needs, refl, lines-none (slotLineAt (a .spec .now) (a .call .now) (a .t3) (a .board .now)) (a .at) (a .out .now) (omega (arith, c .before .before .before .before .pre .1)))
 
-element-copy-out-write-slot : tie.Need-element-copy-out-write-slot Inv-loop μ-loop
-element-copy-out-write-slot c = search needs
-
-mul-write-slot : tie.Need-mul-write-slot Inv-loop μ-loop
-mul-write-slot c = search needs
-
-element-copy-out-write-slot-2 : tie.Need-element-copy-out-write-slot-2 Inv-loop μ-loop
-element-copy-out-write-slot-2 c = search needs
-
-mul-pair-at : tie.Need-mul-pair-at Inv-loop μ-loop
-mul-pair-at c = search needs
-
-pair-at-requires : tie.Need-pair-at-requires Inv-loop μ-loop
-pair-at-requires c κs = search needs
-
 write-slot-requires : tie.Need-write-slot-requires Inv-loop μ-loop
 write-slot-requires c κs =
     let a = c .before .before .before .before .before .before .before .before .before .before .args in
@@ -50,12 +35,6 @@ write-slot-requires c κs =
       l .inv .1,
       lines-end (slotLineAt (a .spec .now) (a .call .now) (a .t3) (a .board .now)) 152 (slot-short (a .spec .now) (a .call .now) (a .t3) (a .board .now)) (l .i) (a .at) (a .out .now) (l .out) (l .end) (l .inv .2),
     )
-
-add-i : tie.Need-add-i Inv-loop μ-loop
-add-i c = search needs
-
-loop-less : tie.Need-loop-less Inv-loop μ-loop
-loop-less c = search needs
 
 loop-again : tie.Need-loop-again Inv-loop μ-loop
 unfolding slotLineAt
@@ -80,4 +59,4 @@ returns c =
     put-same _ _ (ap (linesTo (slotLineAt (a .spec .now) (a .call .now) (a .t3) (a .board .now))) whole) (l .inv .2)
 
 pub write-slots-spec : {M : Type 1} → statement M
-write-slots-spec = tie.close (tie.spec Inv-loop μ-loop loop-holds element-copy-out-write-slot mul-write-slot element-copy-out-write-slot-2 mul-pair-at pair-at-requires write-slot-requires add-i loop-less loop-again same-length returns)
+write-slots-spec = tie.close (tie.spec Inv-loop μ-loop loop-holds (λ c. search needs) (λ c. search needs) (λ c. search needs) (λ c. search needs) (λ c κs. search needs) write-slot-requires (λ c. search needs) (λ c. search needs) loop-again same-length returns)

@@ -11,18 +11,6 @@ use borrow.Author.Needs.{needs}
 use Rattle.sheet_output.proofs.parts.write_star.Statement.{statement}
 use Rattle.sheet_output.proofs.parts.write_star.Tie as tie
 
-slice-aggregate-write-bytes : tie.Need-slice-aggregate-write-bytes
-slice-aggregate-write-bytes c = search needs
-
-write-bytes-requires : tie.Need-write-bytes-requires
-write-bytes-requires c κs = search needs
-
-value-cell-requires : tie.Need-value-cell-requires
-value-cell-requires c κs = search needs
-
-same-length : tie.Need-same-length
-same-length c = search needs
-
 returns : tie.Need-returns
 unfolding starLine line
 returns c =
@@ -34,4 +22,4 @@ returns c =
     _ _ _ _ (c .before .before .before .before .before .before .write-bytes .ensures) (c .before .before .value-cell .ensures)
 
 pub write-star-spec : {M : Type 1} → statement M
-write-star-spec = tie.close (tie.spec slice-aggregate-write-bytes write-bytes-requires value-cell-requires same-length returns)
+write-star-spec = tie.close (tie.spec (λ c. search needs) (λ c κs. search needs) (λ c κs. search needs) (λ c. search needs) returns)

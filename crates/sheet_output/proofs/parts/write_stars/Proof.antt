@@ -30,9 +30,6 @@ mul-pair-at c = omega (arith, c .loop-test .taken, c .before .before .before .be
 add-pair-at : tie.Need-add-pair-at Inv-loop μ-loop
 add-pair-at c = omega (arith, c .loop-test .taken, c .before .before .before .before .before .before .pre .0, c .before .before .before .before .before .before .pre .1)
 
-pair-at-requires : tie.Need-pair-at-requires Inv-loop μ-loop
-pair-at-requires c κs = search needs
-
 write-star-requires : tie.Need-write-star-requires Inv-loop μ-loop
 write-star-requires c κs =
     let a = c .before .before .before .before .before .before .before .before .args in
@@ -44,12 +41,6 @@ write-star-requires c κs =
       l .inv .1,
       lines-end (starLineAt (a .spec .now) (a .call .now) (a .board .now) (a .from)) 72 (star-short (a .spec .now) (a .call .now) (a .board .now) (a .from)) (l .k) (a .at) (a .out .now) (l .out) (l .end) (l .inv .2),
     )
-
-add-k : tie.Need-add-k Inv-loop μ-loop
-add-k c = search needs
-
-loop-less : tie.Need-loop-less Inv-loop μ-loop
-loop-less c = search needs
 
 loop-again : tie.Need-loop-again Inv-loop μ-loop
 unfolding starLineAt
@@ -74,4 +65,4 @@ returns c =
     put-same _ _ (ap (linesTo (starLineAt (a .spec .now) (a .call .now) (a .board .now) (a .from))) whole) (l .inv .2)
 
 pub write-stars-spec : {M : Type 1} → statement M
-write-stars-spec = tie.close (tie.spec Inv-loop μ-loop loop-holds mul-pair-at add-pair-at pair-at-requires write-star-requires add-k loop-less loop-again same-length returns)
+write-stars-spec = tie.close (tie.spec Inv-loop μ-loop loop-holds mul-pair-at add-pair-at (λ c κs. search needs) write-star-requires (λ c. search needs) (λ c. search needs) loop-again same-length returns)

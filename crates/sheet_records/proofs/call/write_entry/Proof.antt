@@ -13,25 +13,10 @@ use Rattle.sheet_records.proofs.LawsCall.{put-entry}
 use Rattle.sheet_records.proofs.call.write_entry.Statement.{statement}
 use Rattle.sheet_records.proofs.call.write_entry.Tie as tie
 
-name-of-requires : tie.Need-name-of-requires
-name-of-requires c κs = search needs
-
 argument-at-requires : tie.Need-argument-at-requires
 argument-at-requires c κs =
     let s = c .before .before .before .before in
     (omega (arith, ap length (c .name-of .ensures), s .pre .0 .name-short), omega (arith, s .pre .1))
-
-put-requires : tie.Need-put-requires
-put-requires c κs = search needs
-
-add-write-value : tie.Need-add-write-value
-add-write-value c = search needs
-
-write-value-requires : tie.Need-write-value-requires
-write-value-requires c κs = search needs
-
-same-length : tie.Need-same-length
-same-length c = search needs
 
 returns : tie.Need-returns
 returns c =
@@ -45,13 +30,4 @@ returns c =
     (p .before .argument-at .ensures ∙ ap (λ b. valueAt callText (a .text) (readCell b)) (n .name-of .ensures))
 
 pub write-entry-spec : {M : Type 1} → statement M
-write-entry-spec =
-    tie.close
-    (tie.spec
-    name-of-requires
-    argument-at-requires
-    put-requires
-    add-write-value
-    write-value-requires
-    same-length
-    returns)
+write-entry-spec = tie.close (tie.spec (λ c κs. search needs) argument-at-requires (λ c κs. search needs) (λ c. search needs) (λ c κs. search needs) (λ c. search needs) returns)

@@ -7,27 +7,6 @@ use Rattle.sheet_records.proofs.LawsCall.{head-stored}
 use Rattle.sheet_records.proofs.call.write_head.Statement.{statement}
 use Rattle.sheet_records.proofs.call.write_head.Tie as tie
 
-new-requires : tie.Need-new-requires
-new-requires c κs = search needs
-
-put-requires : tie.Need-put-requires
-put-requires c κs = search needs
-
-new-requires-2 : tie.Need-new-requires-2
-new-requires-2 c κs = search needs
-
-put-requires-2 : tie.Need-put-requires-2
-put-requires-2 c κs = search needs
-
-new-requires-3 : tie.Need-new-requires-3
-new-requires-3 c κs = search needs
-
-put-requires-3 : tie.Need-put-requires-3
-put-requires-3 c κs = search needs
-
-same-length : tie.Need-same-length
-same-length c = search needs
-
 returns : tie.Need-returns
 returns c =
     let third = c .before .before in
@@ -41,14 +20,4 @@ returns c =
     (ap pairOf (first .before .new .ensures)) (ap pairOf (second .before .new2 .ensures)) (ap pairOf (third .before .new3 .ensures))
 
 pub write-head-spec : {M : Type 1} → statement M
-write-head-spec =
-    tie.close
-    (tie.spec
-    new-requires
-    put-requires
-    new-requires-2
-    put-requires-2
-    new-requires-3
-    put-requires-3
-    same-length
-    returns)
+write-head-spec = tie.close (tie.spec (λ c κs. search needs) (λ c κs. search needs) (λ c κs. search needs) (λ c κs. search needs) (λ c κs. search needs) (λ c κs. search needs) (λ c. search needs) returns)

@@ -12,25 +12,10 @@ use Rattle.sheet_records.proofs.LawsCall.{put-named}
 use Rattle.sheet_records.proofs.call.write_named.Statement.{statement}
 use Rattle.sheet_records.proofs.call.write_named.Tie as tie
 
-name-of-requires : tie.Need-name-of-requires
-name-of-requires c κs = search needs
-
 named-at-requires : tie.Need-named-at-requires
 named-at-requires c κs =
     let s = c .before .before .before .before in
     (omega (arith, ap length (c .before .name-of .ensures), s .pre .0 .name-short), omega (arith, s .pre .1))
-
-put-requires : tie.Need-put-requires
-put-requires c κs = search needs
-
-add-write-value : tie.Need-add-write-value
-add-write-value c = search needs
-
-write-value-requires : tie.Need-write-value-requires
-write-value-requires c κs = search needs
-
-same-length : tie.Need-same-length
-same-length c = search needs
 
 returns : tie.Need-returns
 returns c =
@@ -44,13 +29,4 @@ returns c =
     (p .before .named-at .ensures ∙ ap (λ b. value callText (payloadOf (a .text) (length b))) (n .name-of .ensures))
 
 pub write-named-spec : {M : Type 1} → statement M
-write-named-spec =
-    tie.close
-    (tie.spec
-    name-of-requires
-    named-at-requires
-    put-requires
-    add-write-value
-    write-value-requires
-    same-length
-    returns)
+write-named-spec = tie.close (tie.spec (λ c κs. search needs) named-at-requires (λ c κs. search needs) (λ c. search needs) (λ c κs. search needs) (λ c. search needs) returns)

@@ -80,12 +80,6 @@ add-text c = omega (arith, texts-end c, c .before .before .before .before .befor
 add-at : tie.Need-add-at Inv-loop μ-loop
 add-at c = omega (arith, c .before .before .before .before .before .before .row-at .ensures .within)
 
-sub-left : tie.Need-sub-left Inv-loop μ-loop
-sub-left c = search needs
-
-loop-less : tie.Need-loop-less Inv-loop μ-loop
-loop-less c = omega arith
-
 loop-again : tie.Need-loop-again Inv-loop μ-loop
 loop-again c =
     let w = c .before .before .before in
@@ -110,19 +104,4 @@ returns c =
     left-done (partFrom (callPartOf (a .wanted)) (l .loop .text) (rowsFrom (a .input .now) (columnsOf (a .columns)) (l .loop .at) (l .loop .left))) (ap (partFrom (callPartOf (a .wanted)) (l .loop .text)) (rows-none (a .input .now) (columnsOf (a .columns)) (l .loop .at) (l .loop .left) (omega (arith, c .loop-test .left))) ∙ part-none (callPartOf (a .wanted)) (l .loop .text)) (l .loop .inv .2)
 
 pub write-part-spec : {M : Type 1} → statement M
-write-part-spec =
-    tie.close
-    (tie.spec
-    Inv-loop
-    μ-loop
-    loop-holds
-    row-at-requires
-    write-row-requires
-    texts-len-requires
-    add-text
-    add-at
-    sub-left
-    loop-less
-    loop-again
-    same-length
-    returns)
+write-part-spec = tie.close (tie.spec Inv-loop μ-loop loop-holds row-at-requires write-row-requires texts-len-requires add-text add-at (λ c. search needs) (λ c. omega arith) loop-again same-length returns)

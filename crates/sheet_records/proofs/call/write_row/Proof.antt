@@ -28,12 +28,6 @@ wanted-is c =
     let s = p .before .before .before .args in
     ap (λ b. eqb (partNumber (callPart b)) (partNumber (callPartOf (s .wanted)))) (sym (p .part-of .ensures)) ∙ sym (c .before .is-part .ensures) ∙ not-false _ (c .if1 .left)
 
-part-of-requires : tie.Need-part-of-requires
-part-of-requires c κs = search needs
-
-is-part-requires : tie.Need-is-part-requires
-is-part-requires c κs = search needs
-
 returns : tie.Need-returns
 unfolding isPart
 returns c =
@@ -45,9 +39,6 @@ returns c =
     (part-not (callPartOf (a .wanted)) (placed r (a .text)) (ap (λ b. eqb (partNumber (callPart b)) (partNumber (callPartOf (a .wanted)))) (sym (q .part-of .ensures)) ∙ sym (c .before .is-part .ensures) ∙ not-true _ (c .if1 .taken)))
     (s .pre .2)
 
-enum-told : tie.Need-enum-told
-enum-told c = search needs
-
 write-value-requires : tie.Need-write-value-requires
 write-value-requires c κs =
     let e = c .before .before .before in
@@ -55,9 +46,6 @@ write-value-requires c κs =
     let a = s .args in
     let p = placed (rowOf (a .input .now) (a .row)) (a .text) in
     (s .pre .0, s .pre .1, omega (arith, s .pre .2, ap length (part-as (callPartOf (a .wanted)) positional p (ap callPartOf (c .before .enum-told .given .1)) (wanted-is e)), valueCells-two (rowValue p)))
-
-enum-told-2 : tie.Need-enum-told-2
-enum-told-2 c = search needs
 
 write-named-requires : tie.Need-write-named-requires
 write-named-requires c κs =
@@ -67,12 +55,6 @@ write-named-requires c κs =
     let p = placed (rowOf (a .input .now) (a .row)) (a .text) in
     (s .pre .0, s .pre .1, omega (arith, s .pre .2, ap length (part-as (callPartOf (a .wanted)) named p (ap callPartOf (c .before .enum-told2 .given .1)) (wanted-is e)), pair-four (namedPair p)))
 
-enum-told-3 : tie.Need-enum-told-3
-enum-told-3 c = search needs
-
-enum-told-4 : tie.Need-enum-told-4
-enum-told-4 c = search needs
-
 write-value-requires-2 : tie.Need-write-value-requires-2
 write-value-requires-2 c κs =
     let e = c .before .before .before in
@@ -80,12 +62,6 @@ write-value-requires-2 c κs =
     let a = s .args in
     let p = placed (rowOf (a .input .now) (a .row)) (a .text) in
     (s .pre .0, s .pre .1, omega (arith, s .pre .2, ap length (part-as (callPartOf (a .wanted)) item p (ap callPartOf (c .before .enum-told4 .given .1)) (wanted-is e)), valueCells-two (rowValue p)))
-
-enum-told-5 : tie.Need-enum-told-5
-enum-told-5 c = search needs
-
-enum-told-6 : tie.Need-enum-told-6
-enum-told-6 c = search needs
 
 write-entry-requires : tie.Need-write-entry-requires
 write-entry-requires c κs =
@@ -95,12 +71,6 @@ write-entry-requires c κs =
     let p = placed (rowOf (a .input .now) (a .row)) (a .text) in
     (s .pre .0, s .pre .1, omega (arith, s .pre .2, ap length (part-as (callPartOf (a .wanted)) entry p (ap callPartOf (c .before .enum-told6 .given .1)) (wanted-is e)), pair-four (entryPair p)))
 
-enum-told-7 : tie.Need-enum-told-7
-enum-told-7 c = search needs
-
-same-length : tie.Need-same-length
-same-length c = search needs
-
 returns-2 : tie.Need-returns-2
 returns-2 c =
     let w = c .before .before in
@@ -109,9 +79,6 @@ returns-2 c =
     let a = e .before .before .before .before .before .args in
     let p = placed (rowOf (a .input .now) (a .row)) (a .text) in
     put-same (valueCells (rowValue p)) (partCells (callPartOf (a .wanted)) p) (sym (part-as (callPartOf (a .wanted)) positional p (ap callPartOf (t .enum-told .given .1)) (wanted-is e))) (w .write-value .ensures)
-
-same-length-2 : tie.Need-same-length-2
-same-length-2 c = search needs
 
 returns-3 : tie.Need-returns-3
 returns-3 c =
@@ -130,9 +97,6 @@ returns-4 c =
     let p = placed (rowOf (a .input .now) (a .row)) (a .text) in
     put-none (partCells (callPartOf (a .wanted)) p) (a .cells .now) (a .next) (part-as (callPartOf (a .wanted)) star p (ap callPartOf (c .enum-told3 .given .1)) (wanted-is e)) (s .pre .2)
 
-same-length-3 : tie.Need-same-length-3
-same-length-3 c = search needs
-
 returns-5 : tie.Need-returns-5
 returns-5 c =
     let w = c .before .before in
@@ -149,9 +113,6 @@ returns-6 c =
     let a = s .args in
     let p = placed (rowOf (a .input .now) (a .row)) (a .text) in
     put-none (partCells (callPartOf (a .wanted)) p) (a .cells .now) (a .next) (part-as (callPartOf (a .wanted)) double p (ap callPartOf (c .enum-told5 .given .1)) (wanted-is e)) (s .pre .2)
-
-same-length-4 : tie.Need-same-length-4
-same-length-4 c = search needs
 
 returns-7 : tie.Need-returns-7
 returns-7 c =
@@ -171,31 +132,4 @@ returns-8 c =
     put-none (partCells (callPartOf (a .wanted)) p) (a .cells .now) (a .next) (part-as (callPartOf (a .wanted)) unknownPart p (ap callPartOf (c .enum-told7 .given .1)) (wanted-is e)) (s .pre .2)
 
 pub write-row-spec : {M : Type 1} → statement M
-write-row-spec =
-    tie.close
-    (tie.spec
-    part-of-requires
-    is-part-requires
-    returns
-    enum-told
-    write-value-requires
-    enum-told-2
-    write-named-requires
-    enum-told-3
-    enum-told-4
-    write-value-requires-2
-    enum-told-5
-    enum-told-6
-    write-entry-requires
-    enum-told-7
-    same-length
-    returns-2
-    same-length-2
-    returns-3
-    returns-4
-    same-length-3
-    returns-5
-    returns-6
-    same-length-4
-    returns-7
-    returns-8)
+write-row-spec = tie.close (tie.spec (λ c κs. search needs) (λ c κs. search needs) returns (λ c. search needs) write-value-requires (λ c. search needs) write-named-requires (λ c. search needs) (λ c. search needs) write-value-requires-2 (λ c. search needs) (λ c. search needs) write-entry-requires (λ c. search needs) (λ c. search needs) returns-2 (λ c. search needs) returns-3 returns-4 (λ c. search needs) returns-5 returns-6 (λ c. search needs) returns-7 returns-8)

@@ -16,15 +16,6 @@ use Rattle.sheet_records.proofs.LawsFit.{name-fits}
 use Rattle.sheet_records.proofs.call.write_value.Statement.{statement}
 use Rattle.sheet_records.proofs.call.write_value.Tie as tie
 
-name-text-requires : tie.Need-name-text-requires
-name-text-requires c κs = search needs
-
-add-start : tie.Need-add-start
-add-start c = search needs
-
-value-of-requires : tie.Need-value-of-requires
-value-of-requires c κs = search needs
-
 argument-at-requires : tie.Need-argument-at-requires
 argument-at-requires c κs =
     let s = c .before .before .before .before .before in
@@ -32,15 +23,6 @@ argument-at-requires c κs =
       omega (arith, ap length (c .value-of .ensures), held .value-short),
       omega (arith, ap length (c .before .before .name-text .ensures), name-fits true (rowOf (s .args .input .now) (s .args .row)), held .name-short, s .pre .1),
     )
-
-put-requires : tie.Need-put-requires
-put-requires c κs = search needs
-
-add-result : tie.Need-add-result
-add-result c = search needs
-
-same-length : tie.Need-same-length
-same-length c = search needs
 
 returns : tie.Need-returns
 returns c =
@@ -53,14 +35,4 @@ returns c =
     (p .put .ensures)
 
 pub write-value-spec : {M : Type 1} → statement M
-write-value-spec =
-    tie.close
-    (tie.spec
-    name-text-requires
-    add-start
-    value-of-requires
-    argument-at-requires
-    put-requires
-    add-result
-    same-length
-    returns)
+write-value-spec = tie.close (tie.spec (λ c κs. search needs) (λ c. search needs) (λ c κs. search needs) argument-at-requires (λ c κs. search needs) (λ c. search needs) (λ c. search needs) returns)

@@ -11,37 +11,10 @@ use Rattle.sheet_records.proofs.LawsCell.{text-some, text-value}
 use Rattle.sheet_records.proofs.cell.argument_at.Statement.{statement}
 use Rattle.sheet_records.proofs.cell.argument_at.Tie as tie
 
-read-cell-requires : tie.Need-read-cell-requires
-read-cell-requires c κs = search needs
-
-enum-known-v : tie.Need-enum-known-v
-enum-known-v c = search needs
-
-cells-requires : tie.Need-cells-requires
-cells-requires c κs = search needs
-
-enum-told : tie.Need-enum-told
-enum-told c = search needs
-
-cast-t6 : tie.Need-cast-t6
-cast-t6 c = search needs
-
 sub-t8 : tie.Need-sub-t8
 sub-t8 c =
     let s = c .before .before .before .before .args in
     text-some (s .cell .now) (drop 1 (s .cell .now)) (sym (ap (cellOf (s .cell .now)) (c .enum-told .given .1)) ∙ c .before .before .read-cell .ensures)
-
-cast-t9 : tie.Need-cast-t9
-cast-t9 c = search needs
-
-cells-requires-2 : tie.Need-cells-requires-2
-cells-requires-2 c κs = search needs
-
-enum-told-2 : tie.Need-enum-told-2
-enum-told-2 c = search needs
-
-new-requires : tie.Need-new-requires
-new-requires c κs = search needs
 
 returns : tie.Need-returns
 returns c =
@@ -61,19 +34,4 @@ returns-3 c =
     ap pairOf (c .new .ensures) ∙ ap (valueAt callText (s .start)) (sym (ap (cellOf (s .cell .now)) (c .before .enum-told2 .given .1)) ∙ c .before .before .before .read-cell .ensures)
 
 pub argument-at-spec : {M : Type 1} → statement M
-argument-at-spec =
-    tie.close
-    (tie.spec
-    read-cell-requires
-    enum-known-v
-    cells-requires
-    enum-told
-    cast-t6
-    sub-t8
-    cast-t9
-    cells-requires-2
-    enum-told-2
-    new-requires
-    returns
-    returns-2
-    returns-3)
+argument-at-spec = tie.close (tie.spec (λ c κs. search needs) (λ c. search needs) (λ c κs. search needs) (λ c. search needs) (λ c. search needs) sub-t8 (λ c. search needs) (λ c κs. search needs) (λ c. search needs) (λ c κs. search needs) returns returns-2 returns-3)

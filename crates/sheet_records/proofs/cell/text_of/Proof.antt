@@ -9,18 +9,6 @@ use Rattle.sheet_records.proofs.LawsCell.{text-some, text-bytes}
 use Rattle.sheet_records.proofs.cell.text_of.Statement.{statement}
 use Rattle.sheet_records.proofs.cell.text_of.Tie as tie
 
-read-cell-requires : tie.Need-read-cell-requires
-read-cell-requires c κs = search needs
-
-enum-told : tie.Need-enum-told
-enum-told c = search needs
-
-slice-aggregate-result : tie.Need-slice-aggregate-result
-slice-aggregate-result c = search needs
-
-enum-told-2 : tie.Need-enum-told-2
-enum-told-2 c = search needs
-
 sub-result : tie.Need-sub-result
 sub-result c =
     let s = c .before .before .before .before .args in
@@ -30,15 +18,6 @@ part-result-start : tie.Need-part-result-start
 part-result-start c =
     let s = c .before .before .before .before .args in
     text-some (s .cell .now) (drop 1 (s .cell .now)) (sym (ap (cellOf (s .cell .now)) (c .enum-told2 .given .1)) ∙ c .before .before .read-cell .ensures)
-
-part-result-end : tie.Need-part-result-end
-part-result-end c = search needs
-
-enum-told-3 : tie.Need-enum-told-3
-enum-told-3 c = search needs
-
-slice-aggregate-result-2 : tie.Need-slice-aggregate-result-2
-slice-aggregate-result-2 c = search needs
 
 returns : tie.Need-returns
 returns c =
@@ -56,18 +35,4 @@ returns-3 c =
     ap textOf (sym (ap (cellOf (s .cell .now)) (c .before .enum-told3 .given .1)) ∙ c .before .before .before .read-cell .ensures)
 
 pub text-of-spec : {M : Type 1} → statement M
-text-of-spec =
-    tie.close
-    (tie.spec
-    read-cell-requires
-    enum-told
-    slice-aggregate-result
-    enum-told-2
-    sub-result
-    part-result-start
-    part-result-end
-    enum-told-3
-    slice-aggregate-result-2
-    returns
-    returns-2
-    returns-3)
+text-of-spec = tie.close (tie.spec (λ c κs. search needs) (λ c. search needs) (λ c. search needs) (λ c. search needs) sub-result part-result-start (λ c. search needs) (λ c. search needs) (λ c. search needs) returns returns-2 returns-3)

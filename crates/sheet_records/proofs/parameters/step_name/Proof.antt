@@ -6,9 +6,6 @@ use borrow.Author.Needs.{needs}
 use Rattle.sheet_records.proofs.parameters.step_name.Statement.{statement}
 use Rattle.sheet_records.proofs.parameters.step_name.Tie as tie
 
-payload-of-requires : tie.Need-payload-of-requires
-payload-of-requires c κs = search needs
-
 returns : tie.Need-returns
 returns c = c .payload-of .ensures ∙ rw (lt-ltb _ _ (c .before .if1 .taken))
 
@@ -16,4 +13,4 @@ returns-2 : tie.Need-returns-2
 returns-2 c = rw (le-ltb _ _ (c .if1 .left))
 
 pub step-name-spec : {M : Type 1} → statement M
-step-name-spec = tie.close (tie.spec payload-of-requires returns returns-2)
+step-name-spec = tie.close (tie.spec (λ c κs. search needs) returns returns-2)

@@ -18,21 +18,6 @@ use Rattle.sheet_records.proofs.LawsSteps.{put-step}
 use Rattle.sheet_records.proofs.parameters.write_step.Statement.{statement}
 use Rattle.sheet_records.proofs.parameters.write_step.Tie as tie
 
-part-of-requires : tie.Need-part-of-requires
-part-of-requires c κs = search needs
-
-code-of-requires : tie.Need-code-of-requires
-code-of-requires c κs = search needs
-
-name-of-requires : tie.Need-name-of-requires
-name-of-requires c κs = search needs
-
-value-of-requires : tie.Need-value-of-requires
-value-of-requires c κs = search needs
-
-add-default-at : tie.Need-add-default-at
-add-default-at c = search needs
-
 default-at-requires : tie.Need-default-at-requires
 default-at-requires c κs =
     let n = c .before in
@@ -45,27 +30,12 @@ step-name-requires c κs =
     let s = n .before .before .before .before .before in
     (omega (arith, ap length (n .name-of .ensures), s .pre .0 .name-short), omega (arith, s .pre .1))
 
-new-requires : tie.Need-new-requires
-new-requires c κs = search needs
-
-put-requires : tie.Need-put-requires
-put-requires c κs = search needs
-
-add-put : tie.Need-add-put
-add-put c = search needs
-
-put-requires-2 : tie.Need-put-requires-2
-put-requires-2 c κs = search needs
-
 add-result : tie.Need-add-result
 add-result c =
     let q = c .before .before in
     let p = q .before .before .before .before in
     let s = p .before .before .before .before .before .before .before .before .before .before .before in
     omega (arith, s .pre .2, p .put .kept .0)
-
-same-length : tie.Need-same-length
-same-length c = search needs
 
 returns : tie.Need-returns
 returns c =
@@ -86,20 +56,4 @@ returns c =
     (p .put .ensures) (q .put2 .ensures)
 
 pub write-step-spec : {M : Type 1} → statement M
-write-step-spec =
-    tie.close
-    (tie.spec
-    part-of-requires
-    code-of-requires
-    name-of-requires
-    value-of-requires
-    add-default-at
-    default-at-requires
-    step-name-requires
-    new-requires
-    put-requires
-    add-put
-    put-requires-2
-    add-result
-    same-length
-    returns)
+write-step-spec = tie.close (tie.spec (λ c κs. search needs) (λ c κs. search needs) (λ c κs. search needs) (λ c κs. search needs) (λ c. search needs) default-at-requires step-name-requires (λ c κs. search needs) (λ c κs. search needs) (λ c. search needs) (λ c κs. search needs) add-result (λ c. search needs) returns)

@@ -80,12 +80,6 @@ add-start c = omega (arith, texts-end c, c .before .before .before .before .befo
 add-at : tie.Need-add-at Inv-loop μ-loop
 add-at c = omega (arith, c .before .before .before .before .before .before .row-at .ensures .within)
 
-sub-left : tie.Need-sub-left Inv-loop μ-loop
-sub-left c = search needs
-
-loop-less : tie.Need-loop-less Inv-loop μ-loop
-loop-less c = omega arith
-
 loop-again : tie.Need-loop-again Inv-loop μ-loop
 loop-again c =
     let w = c .before .before .before in
@@ -110,19 +104,4 @@ returns c =
     left-done (stepRun (l .loop .start) (rowsFrom (a .input .now) (columnsOf (a .columns)) (l .loop .at) (l .loop .left))) (ap (stepRun (l .loop .start)) (rows-none (a .input .now) (columnsOf (a .columns)) (l .loop .at) (l .loop .left) (omega (arith, c .loop-test .left)))) (l .loop .inv .2)
 
 pub write-steps-spec : {M : Type 1} → statement M
-write-steps-spec =
-    tie.close
-    (tie.spec
-    Inv-loop
-    μ-loop
-    loop-holds
-    row-at-requires
-    write-step-requires
-    texts-len-requires
-    add-start
-    add-at
-    sub-left
-    loop-less
-    loop-again
-    same-length
-    returns)
+write-steps-spec = tie.close (tie.spec Inv-loop μ-loop loop-holds row-at-requires write-step-requires texts-len-requires add-start add-at (λ c. search needs) (λ c. omega arith) loop-again same-length returns)

@@ -16,22 +16,10 @@ Inv-loop input from lines₀ end₀ lines end = (lines ≤ end) × (end ≤ leng
 abbrev μ-loop : tie.MeasureT-loop
 μ-loop input from lines₀ end₀ lines end = length input - end
 
-end-of-requires : tie.Need-end-of-requires Inv-loop μ-loop
-end-of-requires c κs = search needs
-
 loop-holds : tie.Need-loop-holds Inv-loop μ-loop
 loop-holds c =
     let s = c .before .before in
     (search needs, c .end-of .ensures .within, omega (arith, lines-found (s .args .input .now) (s .args .from) (c .end-of .result) (c .end-of .ensures)))
-
-add-lines : tie.Need-add-lines Inv-loop μ-loop
-add-lines c = search needs
-
-add-end-of : tie.Need-add-end-of Inv-loop μ-loop
-add-end-of c = search needs
-
-end-of-requires-2 : tie.Need-end-of-requires-2 Inv-loop μ-loop
-end-of-requires-2 c κs = search needs
 
 loop-less : tie.Need-loop-less Inv-loop μ-loop
 loop-less c =
@@ -54,16 +42,4 @@ returns c =
     omega (arith, l .loop .inv .2, lines-none (s .args .input .now) (l .loop .end) (c .loop-test .left))
 
 pub count-lines-spec : {M : Type 1} → statement M
-count-lines-spec =
-    tie.close
-    (tie.spec
-    Inv-loop
-    μ-loop
-    end-of-requires
-    loop-holds
-    add-lines
-    add-end-of
-    end-of-requires-2
-    loop-less
-    loop-again
-    returns)
+count-lines-spec = tie.close (tie.spec Inv-loop μ-loop (λ c κs. search needs) loop-holds (λ c. search needs) (λ c. search needs) (λ c κs. search needs) loop-less loop-again returns)

@@ -6,18 +6,9 @@ use Rattle.sheet_lines.specs.Piece.{piece}
 use Rattle.sheet_records.proofs.row.part_of.Statement.{statement}
 use Rattle.sheet_records.proofs.row.part_of.Tie as tie
 
-sub-result : tie.Need-sub-result
-sub-result c = search needs
-
-part-result-start : tie.Need-part-result-start
-part-result-start c = search needs
-
-part-result-end : tie.Need-part-result-end
-part-result-end c = search needs
-
 returns : tie.Need-returns
 unfolding piece
 returns c = refl
 
 pub part-of-spec : {M : Type 1} → statement M
-part-of-spec = tie.close (tie.spec sub-result part-result-start part-result-end returns)
+part-of-spec = tie.close (tie.spec (λ c. search needs) (λ c. search needs) (λ c. search needs) returns)

@@ -6,12 +6,6 @@ use Rattle.sheet_records.proofs.LawsRows.{line-read}
 use Rattle.sheet_records.proofs.row.row_at.Statement.{statement}
 use Rattle.sheet_records.proofs.row.row_at.Tie as tie
 
-end-of-requires : tie.Need-end-of-requires
-end-of-requires c κs = search needs
-
-row-in-requires : tie.Need-row-in-requires
-row-in-requires c κs = search needs
-
 returns : tie.Need-returns
 returns c =
     let e = c .before .before in
@@ -19,4 +13,4 @@ returns c =
     line-read (s .args .input .now) (columnsOf (s .args .columns)) (s .args .at) (e .end-of .result) (c .before .row-in .result) (s .pre) (e .end-of .ensures) (c .before .row-in .ensures)
 
 pub row-at-spec : {M : Type 1} → statement M
-row-at-spec = tie.close (tie.spec end-of-requires row-in-requires returns)
+row-at-spec = tie.close (tie.spec (λ c κs. search needs) (λ c κs. search needs) returns)

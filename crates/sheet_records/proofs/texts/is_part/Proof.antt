@@ -7,18 +7,9 @@ use Rattle.rules.specs.SheetRows.{partNumber}
 use Rattle.sheet_records.proofs.texts.is_part.Statement.{statement}
 use Rattle.sheet_records.proofs.texts.is_part.Tie as tie
 
-call-part-requires : tie.Need-call-part-requires
-call-part-requires c κs = search needs
-
-number-of-requires : tie.Need-number-of-requires
-number-of-requires c κs = search needs
-
-number-of-requires-2 : tie.Need-number-of-requires-2
-number-of-requires-2 c κs = search needs
-
 returns : tie.Need-returns
 returns c = ap₂ eqb (c .before .number-of .ensures ∙ ap partNumber (c .before .before .call-part .ensures)) (c .number-of2 .ensures)
 
 pub is-part-spec : {M : Type 1} → statement M
 is-part-spec =
-    tie.close (tie.spec call-part-requires number-of-requires number-of-requires-2 returns)
+    tie.close (tie.spec (λ c κs. search needs) (λ c κs. search needs) (λ c κs. search needs) returns)

@@ -12,25 +12,10 @@ use Rattle.sheet_records.proofs.LawsCell.{name-plain, name-entry, name-
 use Rattle.sheet_records.proofs.texts.name_text.Statement.{statement}
 use Rattle.sheet_records.proofs.texts.name_text.Tie as tie
 
-name-of-requires : tie.Need-name-of-requires
-name-of-requires c κs = search needs
-
 returns : tie.Need-returns
 returns c =
     let s = c .before .before .before .args in
     c .name-of .ensures ∙ name-plain (rowOf (s .input .now) (s .row)) (s .keyed) (not-true _ (c .before .if1 .taken))
-
-part-of-requires : tie.Need-part-of-requires
-part-of-requires c κs = search needs
-
-is-part-requires : tie.Need-is-part-requires
-is-part-requires c κs = search needs
-
-name-of-requires-2 : tie.Need-name-of-requires-2
-name-of-requires-2 c κs = search needs
-
-text-of-requires : tie.Need-text-of-requires
-text-of-requires c κs = search needs
 
 returns-2 : tie.Need-returns-2
 unfolding isPart
@@ -42,9 +27,6 @@ returns-2 c =
     ∙ ap (λ b. textOf (readCell b)) (c .before .name-of2 .ensures)
     ∙ name-entry (rowOf (s .input .now) (s .row)) (s .keyed) (not-false _ (p .before .if1 .left)) (ap (λ b. eqb (partNumber (callPart b)) 5) (sym (p .part-of .ensures)) ∙ sym (t .before .is-part .ensures) ∙ t .if2 .taken)
 
-name-of-requires-3 : tie.Need-name-of-requires-3
-name-of-requires-3 c κs = search needs
-
 returns-3 : tie.Need-returns-3
 unfolding isPart
 returns-3 c =
@@ -55,15 +37,4 @@ returns-3 c =
     ∙ name-other (rowOf (s .input .now) (s .row)) (s .keyed) (not-false _ (p .before .if1 .left)) (ap (λ b. eqb (partNumber (callPart b)) 5) (sym (p .part-of .ensures)) ∙ sym (t .before .is-part .ensures) ∙ t .if2 .left)
 
 pub name-text-spec : {M : Type 1} → statement M
-name-text-spec =
-    tie.close
-    (tie.spec
-    name-of-requires
-    returns
-    part-of-requires
-    is-part-requires
-    name-of-requires-2
-    text-of-requires
-    returns-2
-    name-of-requires-3
-    returns-3)
+name-text-spec = tie.close (tie.spec (λ c κs. search needs) returns (λ c κs. search needs) (λ c κs. search needs) (λ c κs. search needs) (λ c κs. search needs) returns-2 (λ c κs. search needs) returns-3)

@@ -11,18 +11,6 @@ use Rattle.sheet_records.proofs.LawsFit.{texts-length}
 use Rattle.sheet_records.proofs.texts.texts_len.Statement.{statement}
 use Rattle.sheet_records.proofs.texts.texts_len.Tie as tie
 
-name-text-requires : tie.Need-name-text-requires
-name-text-requires c κs = search needs
-
-value-of-requires : tie.Need-value-of-requires
-value-of-requires c κs = search needs
-
-text-of-requires : tie.Need-text-of-requires
-text-of-requires c κs = search needs
-
-add-result : tie.Need-add-result
-add-result c = search needs
-
 returns : tie.Need-returns
 returns c =
     let v = c .before in
@@ -33,4 +21,4 @@ returns c =
 
 pub texts-len-spec : {M : Type 1} → statement M
 texts-len-spec =
-    tie.close (tie.spec name-text-requires value-of-requires text-of-requires add-result returns)
+    tie.close (tie.spec (λ c κs. search needs) (λ c κs. search needs) (λ c κs. search needs) (λ c. search needs) returns)

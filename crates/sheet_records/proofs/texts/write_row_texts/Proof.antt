@@ -12,15 +12,6 @@ use Rattle.sheet_records.specs.Text.{nameText, rowTexts}
 use Rattle.sheet_records.proofs.texts.write_row_texts.Statement.{statement}
 use Rattle.sheet_records.proofs.texts.write_row_texts.Tie as tie
 
-name-text-requires : tie.Need-name-text-requires
-name-text-requires c κs = search needs
-
-value-of-requires : tie.Need-value-of-requires
-value-of-requires c κs = search needs
-
-text-of-requires : tie.Need-text-of-requires
-text-of-requires c κs = search needs
-
 write-bytes-requires : tie.Need-write-bytes-requires
 unfolding rowTexts
 write-bytes-requires c κs =
@@ -43,9 +34,6 @@ write-bytes-requires-2 c κs =
     subst (λ b. w .write-bytes .result + length b ≤ length (w .write-bytes .last .1 .1 .0)) (sym (t .text-of .ensures ∙ ap (λ b. textOf (readCell b)) (v .value-of .ensures)))
     (put-rest (nameText (a .keyed) r) (textOf (readCell (r .value))) (a .at) (a .area .now) (s .pre .1) (w .write-bytes .last .1 .1 .0) (w .write-bytes .result) (put-same _ (nameText (a .keyed) r) (n .name-text .ensures) (w .write-bytes .ensures)))
 
-same-length : tie.Need-same-length
-same-length c = search needs
-
 returns : tie.Need-returns
 unfolding rowTexts
 returns c =
@@ -62,13 +50,4 @@ returns c =
     (put-same _ (textOf (readCell (r .value))) (t .text-of .ensures ∙ ap (λ b. textOf (readCell b)) (v .value-of .ensures)) (q .write-bytes2 .ensures))
 
 pub write-row-texts-spec : {M : Type 1} → statement M
-write-row-texts-spec =
-    tie.close
-    (tie.spec
-    name-text-requires
-    value-of-requires
-    text-of-requires
-    write-bytes-requires
-    write-bytes-requires-2
-    same-length
-    returns)
+write-row-texts-spec = tie.close (tie.spec (λ c κs. search needs) (λ c κs. search needs) (λ c κs. search needs) write-bytes-requires write-bytes-requires-2 (λ c. search needs) returns)

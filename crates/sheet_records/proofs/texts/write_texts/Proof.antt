@@ -66,12 +66,6 @@ add-at c =
     let q = c .before .before .before .before .before in
     omega (arith, q .row-at .ensures .within)
 
-sub-left : tie.Need-sub-left Inv-loop μ-loop
-sub-left c = search needs
-
-loop-less : tie.Need-loop-less Inv-loop μ-loop
-loop-less c = omega arith
-
 loop-again : tie.Need-loop-again Inv-loop μ-loop
 loop-again c =
     let w = c .before .before in
@@ -102,17 +96,4 @@ returns c =
     left-done (areaOf (rowTexts (a .keyed)) rows) (ap (areaOf (rowTexts (a .keyed))) (rows-none (a .input .now) (columnsOf (a .columns)) (l .loop .at) (l .loop .left) (omega (arith, c .loop-test .left)))) (l .loop .inv .2)
 
 pub write-texts-spec : {M : Type 1} → statement M
-write-texts-spec =
-    tie.close
-    (tie.spec
-    Inv-loop
-    μ-loop
-    loop-holds
-    row-at-requires
-    write-row-texts-requires
-    add-at
-    sub-left
-    loop-less
-    loop-again
-    same-length
-    returns)
+write-texts-spec = tie.close (tie.spec Inv-loop μ-loop loop-holds row-at-requires write-row-texts-requires add-at (λ c. search needs) (λ c. omega arith) loop-again same-length returns)

@@ -12,18 +12,6 @@ use borrow.Author.Needs.{needs}
 use Rattle.sheet_values.proofs.print.write_bits.Statement.{statement}
 use Rattle.sheet_values.proofs.print.write_bits.Tie as tie
 
-hex-requires : tie.Need-hex-requires
-hex-requires c κs = search needs
-
-slice-aggregate-write-marked : tie.Need-slice-aggregate-write-marked
-slice-aggregate-write-marked c = search needs
-
-array-share-prefix-digits : tie.Need-array-share-prefix-digits
-array-share-prefix-digits c = search needs
-
-slice-aggregate-write-marked-2 : tie.Need-slice-aggregate-write-marked-2
-slice-aggregate-write-marked-2 c = search needs
-
 write-marked-requires : tie.Need-write-marked-requires
 write-marked-requires c κs =
     let d = c .before .before .before in
@@ -32,9 +20,6 @@ write-marked-requires c κs =
     let held = d .hex .last .1 .1 .0 in
     let e = spelled-bits n (d .hex .result) (s .fits .payload .fits) (d .hex .ensures .1 .0) held (d .hex .ensures .1 .1) in
     omega (arith, ap length e, digits-length 16 16 n, s .pre)
-
-same-length : tie.Need-same-length
-same-length c = search needs
 
 returns : tie.Need-returns
 returns c =
@@ -48,13 +33,4 @@ returns c =
     (ap (λ (l : List ℕ). 114 ∷ l) (spelled-bits n k (s .fits .payload .fits) (d .hex .ensures .1 .0) held (d .hex .ensures .1 .1))) (w .write-marked .ensures)
 
 pub write-bits-spec : {M : Type 1} → statement M
-write-bits-spec =
-    tie.close
-    (tie.spec
-    hex-requires
-    slice-aggregate-write-marked
-    array-share-prefix-digits
-    slice-aggregate-write-marked-2
-    write-marked-requires
-    same-length
-    returns)
+write-bits-spec = tie.close (tie.spec (λ c κs. search needs) (λ c. search needs) (λ c. search needs) (λ c. search needs) write-marked-requires (λ c. search needs) returns)

@@ -10,15 +10,6 @@ use borrow.Author.Needs.{needs}
 use Rattle.sheet_values.proofs.print.write_decimal.Statement.{statement}
 use Rattle.sheet_values.proofs.print.write_decimal.Tie as tie
 
-decimal-requires : tie.Need-decimal-requires
-decimal-requires c κs = search needs
-
-array-share-prefix-digits : tie.Need-array-share-prefix-digits
-array-share-prefix-digits c = search needs
-
-slice-aggregate-write-bytes : tie.Need-slice-aggregate-write-bytes
-slice-aggregate-write-bytes c = search needs
-
 write-bytes-requires : tie.Need-write-bytes-requires
 write-bytes-requires c κs =
     let d = c .before .before in
@@ -27,9 +18,6 @@ write-bytes-requires c κs =
     let held = d .decimal .last .1 .0 in
     let e = spelled-decimal n (d .decimal .result) (s .fits .n .fits) (d .decimal .ensures .1 .0) held (d .decimal .ensures .1 .1) in
     omega (arith, ap length e, decimal-length n, s .pre)
-
-same-length : tie.Need-same-length
-same-length c = search needs
 
 returns : tie.Need-returns
 returns c =
@@ -42,12 +30,4 @@ returns c =
     put-same (take k held) (decimal n) (spelled-decimal n k (s .fits .n .fits) (d .decimal .ensures .1 .0) held (d .decimal .ensures .1 .1)) (w .write-bytes .ensures)
 
 pub write-decimal-spec : {M : Type 1} → statement M
-write-decimal-spec =
-    tie.close
-    (tie.spec
-    decimal-requires
-    array-share-prefix-digits
-    slice-aggregate-write-bytes
-    write-bytes-requires
-    same-length
-    returns)
+write-decimal-spec = tie.close (tie.spec (λ c κs. search needs) (λ c. search needs) (λ c. search needs) write-bytes-requires (λ c. search needs) returns)

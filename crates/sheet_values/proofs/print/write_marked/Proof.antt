@@ -4,15 +4,6 @@ use borrow.Author.Needs.{needs}
 use Rattle.sheet_values.proofs.print.write_marked.Statement.{statement}
 use Rattle.sheet_values.proofs.print.write_marked.Tie as tie
 
-write-bytes-requires : tie.Need-write-bytes-requires
-write-bytes-requires c κs = search needs
-
-write-bytes-requires-2 : tie.Need-write-bytes-requires-2
-write-bytes-requires-2 c κs = search needs
-
-same-length : tie.Need-same-length
-same-length c = search needs
-
 returns : tie.Need-returns
 returns c =
     let w = c .before .before in
@@ -24,4 +15,4 @@ returns c =
 
 pub write-marked-spec : {M : Type 1} → statement M
 write-marked-spec =
-    tie.close (tie.spec write-bytes-requires write-bytes-requires-2 same-length returns)
+    tie.close (tie.spec (λ c κs. search needs) (λ c κs. search needs) (λ c. search needs) returns)

@@ -7,15 +7,6 @@ use borrow.Author.Needs.{needs}
 use Rattle.sheet_values.proofs.print.write_number.Statement.{statement}
 use Rattle.sheet_values.proofs.print.write_number.Tie as tie
 
-write-bytes-requires : tie.Need-write-bytes-requires
-write-bytes-requires c κs = search needs
-
-write-decimal-requires : tie.Need-write-decimal-requires
-write-decimal-requires c κs = search needs
-
-same-length : tie.Need-same-length
-same-length c = search needs
-
 returns : tie.Need-returns
 returns c =
     let w = c .before .before in
@@ -27,4 +18,4 @@ returns c =
 
 pub write-number-spec : {M : Type 1} → statement M
 write-number-spec =
-    tie.close (tie.spec write-bytes-requires write-decimal-requires same-length returns)
+    tie.close (tie.spec (λ c κs. search needs) (λ c κs. search needs) (λ c. search needs) returns)

@@ -8,35 +8,11 @@ use borrow.Author.Needs.{needs}
 use Rattle.sheet_values.proofs.print.write_whole.Statement.{statement}
 use Rattle.sheet_values.proofs.print.write_whole.Tie as tie
 
-slice-aggregate-write-number : tie.Need-slice-aggregate-write-number
-slice-aggregate-write-number c = search needs
-
-write-number-requires : tie.Need-write-number-requires
-write-number-requires c κs = search needs
-
-same-length : tie.Need-same-length
-same-length c = search needs
-
 returns : tie.Need-returns
 returns c =
     let t = c .before .before .before .before .before in
     let p = t .before .before .args .payload in
     put-same (105 ∷ decimal p) (105 ∷ printWhole p) (whole-from-zero p (t .if1 .taken)) (c .before .before .write-number .ensures)
-
-slice-aggregate-write-number-2 : tie.Need-slice-aggregate-write-number-2
-slice-aggregate-write-number-2 c = search needs
-
-sub-write-number : tie.Need-sub-write-number
-sub-write-number c = search needs
-
-add-write-number : tie.Need-add-write-number
-add-write-number c = search needs
-
-write-number-requires-2 : tie.Need-write-number-requires-2
-write-number-requires-2 c κs = search needs
-
-same-length-2 : tie.Need-same-length-2
-same-length-2 c = search needs
 
 returns-2 : tie.Need-returns-2
 returns-2 c =
@@ -47,16 +23,4 @@ returns-2 c =
     (c .before .before .write-number2 .ensures)
 
 pub write-whole-spec : {M : Type 1} → statement M
-write-whole-spec =
-    tie.close
-    (tie.spec
-    slice-aggregate-write-number
-    write-number-requires
-    same-length
-    returns
-    slice-aggregate-write-number-2
-    sub-write-number
-    add-write-number
-    write-number-requires-2
-    same-length-2
-    returns-2)
+write-whole-spec = tie.close (tie.spec (λ c. search needs) (λ c κs. search needs) (λ c. search needs) returns (λ c. search needs) (λ c. search needs) (λ c. search needs) (λ c κs. search needs) (λ c. search needs) returns-2)

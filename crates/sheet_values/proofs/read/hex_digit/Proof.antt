@@ -5,14 +5,8 @@ use borrow.Author.Needs.{needs}
 use Rattle.sheet_values.proofs.read.hex_digit.Statement.{statement}
 use Rattle.sheet_values.proofs.read.hex_digit.Tie as tie
 
-is-digit-requires : tie.Need-is-digit-requires
-is-digit-requires c κs = search needs
-
 sub-t3 : tie.Need-sub-t3
 sub-t3 c = digit-least (c .before .before .args .b) (sym (c .before .is-digit .ensures) ∙ c .if1 .taken)
-
-cast-t4 : tie.Need-cast-t4
-cast-t4 c = search needs
 
 returns : tie.Need-returns
 returns c = sym (hex-number (c .before .before .args .b) (sym (c .before .is-digit .ensures) ∙ c .if1 .taken))
@@ -25,25 +19,8 @@ returns-2 c =
 returns-3 : tie.Need-returns-3
 returns-3 c = sym (hex-past (c .before .before .before .before .args .b) (c .if3 .taken))
 
-add-t7 : tie.Need-add-t7
-add-t7 c = search needs
-
-cast-t8 : tie.Need-cast-t8
-cast-t8 c = search needs
-
 returns-4 : tie.Need-returns-4
 returns-4 c = sym (hex-letter (c .before .before .before .before .args .b) (c .before .if2 .left) (c .if3 .left))
 
 pub hex-digit-spec : {M : Type 1} → statement M
-hex-digit-spec =
-    tie.close
-    (tie.spec
-    is-digit-requires
-    sub-t3
-    cast-t4
-    returns
-    returns-2
-    returns-3
-    add-t7
-    cast-t8
-    returns-4)
+hex-digit-spec = tie.close (tie.spec (λ c κs. search needs) sub-t3 (λ c. search needs) returns returns-2 returns-3 (λ c. search needs) (λ c. search needs) returns-4)

@@ -6,24 +6,6 @@ use borrow.Author.Needs.{needs}
 use Rattle.sheet_values.proofs.read.negative.Statement.{statement}
 use Rattle.sheet_values.proofs.read.negative.Tie as tie
 
-enum-known-number : tie.Need-enum-known-number
-enum-known-number c = search needs
-
-enum-told : tie.Need-enum-told
-enum-told c = search needs
-
-returns : tie.Need-returns
-returns c = search needs
-
-returns-2 : tie.Need-returns-2
-returns-2 c = search needs
-
-sub-t4 : tie.Need-sub-t4
-sub-t4 c = search needs
-
-sub-t5 : tie.Need-sub-t5
-sub-t5 c = search needs
-
 returns-3 : tie.Need-returns-3
 returns-3 c =
     let n = c .before .before .number .given in
@@ -31,4 +13,4 @@ returns-3 c =
 
 pub negative-spec : {M : Type 1} → statement M
 negative-spec =
-    tie.close (tie.spec enum-known-number enum-told returns returns-2 sub-t4 sub-t5 returns-3)
+    tie.close (tie.spec (λ c. search needs) (λ c. search needs) (λ c. search needs) (λ c. search needs) (λ c. search needs) (λ c. search needs) returns-3)

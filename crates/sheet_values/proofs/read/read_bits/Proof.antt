@@ -23,18 +23,6 @@ returns c = sym (bits-other (c .before .before .args .digits .now) (c .if1 .take
 loop-holds : tie.Need-loop-holds Inv-loop μ-loop
 loop-holds c = (omega arith, omega arith, bits-taken (c .before .before .args .digits .now) (c .if1 .left))
 
-shared-slice-read-hex-digit : tie.Need-shared-slice-read-hex-digit Inv-loop μ-loop
-shared-slice-read-hex-digit c = search needs
-
-hex-digit-requires : tie.Need-hex-digit-requires Inv-loop μ-loop
-hex-digit-requires c κs = search needs
-
-enum-known-d : tie.Need-enum-known-d Inv-loop μ-loop
-enum-known-d c = search needs
-
-enum-told : tie.Need-enum-told Inv-loop μ-loop
-enum-told c = search needs
-
 returns-2 : tie.Need-returns-2 Inv-loop μ-loop
 returns-2 c =
     let r = c .before .before in
@@ -59,12 +47,6 @@ add-n c =
     let t = hex-some b (numberOf (r .hex-digit .result)) (sym (r .hex-digit .ensures)) (d .0 .0) (ap numberOf (d .1)) in
     omega (arith, hex-most b (t .0), t .1, bits-room (l .loop .n) (l .loop .i) 0 (l .loop .inv .1) (omega arith))
 
-add-i : tie.Need-add-i Inv-loop μ-loop
-add-i c = search needs
-
-loop-less : tie.Need-loop-less Inv-loop μ-loop
-loop-less c = search needs
-
 loop-again : tie.Need-loop-again Inv-loop μ-loop
 loop-again c =
     let r = c .before .before .before in
@@ -86,21 +68,4 @@ returns-3 c =
     sym (l .loop .inv .2 ∙ taken-end isHexDigit 16 (l .loop .n) (l .before .before .before .args .digits .now) (l .loop .i) (c .loop-test .left))
 
 pub read-bits-spec : {M : Type 1} → statement M
-read-bits-spec =
-    tie.close
-    (tie.spec
-    Inv-loop
-    μ-loop
-    returns
-    loop-holds
-    shared-slice-read-hex-digit
-    hex-digit-requires
-    enum-known-d
-    enum-told
-    returns-2
-    mul-n
-    add-n
-    add-i
-    loop-less
-    loop-again
-    returns-3)
+read-bits-spec = tie.close (tie.spec Inv-loop μ-loop returns loop-holds (λ c. search needs) (λ c κs. search needs) (λ c. search needs) (λ c. search needs) returns-2 mul-n add-n (λ c. search needs) (λ c. search needs) loop-again returns-3)

@@ -11,38 +11,11 @@ use Rattle.sheet_values.proofs.read.read_cell.Tie as tie
 returns : tie.Need-returns
 returns c = sym (cell-empty (c .before .before .args .cell .now) (c .if1 .taken))
 
-sub-rest : tie.Need-sub-rest
-sub-rest c = search needs
-
-part-rest-start : tie.Need-part-rest-start
-part-rest-start c = search needs
-
-part-rest-end : tie.Need-part-rest-end
-part-rest-end c = search needs
-
-shared-slice-read-match : tie.Need-shared-slice-read-match
-shared-slice-read-match c = search needs
-
-read-nothing-requires : tie.Need-read-nothing-requires
-read-nothing-requires c κs = search needs
-
-read-flag-requires : tie.Need-read-flag-requires
-read-flag-requires c κs = search needs
-
-read-whole-requires : tie.Need-read-whole-requires
-read-whole-requires c κs = search needs
-
 under-requires : tie.Need-under-requires
 under-requires c κs = fitting-whole (c .read-whole .result)
 
-read-bits-requires : tie.Need-read-bits-requires
-read-bits-requires c κs = search needs
-
 under-requires-2 : tie.Need-under-requires-2
 under-requires-2 c κs = fitting-real (c .read-bits .result)
-
-read-decimal-requires : tie.Need-read-decimal-requires
-read-decimal-requires c κs = search needs
 
 under-requires-3 : tie.Need-under-requires-3
 under-requires-3 c κs =
@@ -102,26 +75,4 @@ returns-8 c =
     (cell-other (e .before .before .args .cell .now) (e .if1 .left) (r .0 .0 .0 .0 .0 .1) (r .0 .0 .0 .0 .1) (r .0 .0 .0 .1) (r .0 .0 .1) (r .0 .1) (r .1))
 
 pub read-cell-spec : {M : Type 1} → statement M
-read-cell-spec =
-    tie.close
-    (tie.spec
-    returns
-    sub-rest
-    part-rest-start
-    part-rest-end
-    shared-slice-read-match
-    read-nothing-requires
-    read-flag-requires
-    read-whole-requires
-    under-requires
-    read-bits-requires
-    under-requires-2
-    read-decimal-requires
-    under-requires-3
-    returns-2
-    returns-3
-    returns-4
-    returns-5
-    returns-6
-    returns-7
-    returns-8)
+read-cell-spec = tie.close (tie.spec returns (λ c. search needs) (λ c. search needs) (λ c. search needs) (λ c. search needs) (λ c κs. search needs) (λ c κs. search needs) (λ c κs. search needs) under-requires (λ c κs. search needs) under-requires-2 (λ c κs. search needs) under-requires-3 returns-2 returns-3 returns-4 returns-5 returns-6 returns-7 returns-8)

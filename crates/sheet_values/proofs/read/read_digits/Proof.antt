@@ -23,12 +23,6 @@ abbrev μ-loop : tie.MeasureT-loop
 loop-holds : tie.Need-loop-holds Inv-loop μ-loop
 loop-holds c = (omega arith, omega arith, refl)
 
-shared-slice-read-is-digit : tie.Need-shared-slice-read-is-digit Inv-loop μ-loop
-shared-slice-read-is-digit c = search needs
-
-is-digit-requires : tie.Need-is-digit-requires Inv-loop μ-loop
-is-digit-requires c κs = search needs
-
 returns : tie.Need-returns Inv-loop μ-loop
 returns c =
     let l = c .before .before .before .before in
@@ -48,12 +42,6 @@ returns-2 c =
     ∙ ap (below (a .limit)) (taken-next isDigit 10 (l .loop .n) (a .digits .now) (l .loop .i) (c .before .before .before .before .loop-test .taken) (sym (c .before .before .is-digit .ensures) ∙ not-false _ (c .before .if1 .left)))
     ∙ below-past isDigit 10 (l .loop .n * 10 + worth b) (a .limit) (drop (l .loop .i + 1) (a .digits .now)) (omega arith) m)
 
-mul-n : tie.Need-mul-n Inv-loop μ-loop
-mul-n c = search needs
-
-shared-slice-read-n : tie.Need-shared-slice-read-n Inv-loop μ-loop
-shared-slice-read-n c = search needs
-
 sub-n : tie.Need-sub-n Inv-loop μ-loop
 sub-n c =
     let e = c .before .before in
@@ -71,12 +59,6 @@ add-n c =
     let e = c .before .before in
     let l = e .before .before .before .before in
     omega (arith, digit-most (getD (l .before .before .args .digits .now) (l .loop .i) 0) (sym (e .before .is-digit .ensures) ∙ not-false _ (e .if1 .left)))
-
-add-i : tie.Need-add-i Inv-loop μ-loop
-add-i c = search needs
-
-loop-less : tie.Need-loop-less Inv-loop μ-loop
-loop-less c = search needs
 
 loop-again : tie.Need-loop-again Inv-loop μ-loop
 loop-again c =
@@ -105,23 +87,4 @@ returns-4 c =
     sym (l .loop .inv .2 ∙ ap (below (a .limit)) (taken-end isDigit 10 (l .loop .n) (a .digits .now) (l .loop .i) (c .before .loop-test .left)) ∙ rw (le-ltb (l .loop .n) (a .limit) (c .if3 .left)))
 
 pub read-digits-spec : {M : Type 1} → statement M
-read-digits-spec =
-    tie.close
-    (tie.spec
-    Inv-loop
-    μ-loop
-    loop-holds
-    shared-slice-read-is-digit
-    is-digit-requires
-    returns
-    returns-2
-    mul-n
-    shared-slice-read-n
-    sub-n
-    cast-n
-    add-n
-    add-i
-    loop-less
-    loop-again
-    returns-3
-    returns-4)
+read-digits-spec = tie.close (tie.spec Inv-loop μ-loop loop-holds (λ c. search needs) (λ c κs. search needs) returns returns-2 (λ c. search needs) (λ c. search needs) sub-n cast-n add-n (λ c. search needs) (λ c. search needs) loop-again returns-3 returns-4)

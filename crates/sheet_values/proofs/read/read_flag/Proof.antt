@@ -12,9 +12,6 @@ returns : tie.Need-returns
 unfolding readForm
 returns c = λ bytes. rw (ne-eqb (length (c .before .before .args .rest .now)) 1 (c .if1 .taken))
 
-read-decimal-requires : tie.Need-read-decimal-requires
-read-decimal-requires c κs = search needs
-
 under-requires : tie.Need-under-requires
 under-requires c κs = fitting-flag (c .read-decimal .result) (c .before .before .before .args .rest .now) (c .read-decimal .ensures)
 
@@ -25,4 +22,4 @@ returns-2 c =
     (c .under .ensures bytes ∙ ap (under 2) (c .before .read-decimal .ensures))
 
 pub read-flag-spec : {M : Type 1} → statement M
-read-flag-spec = tie.close (tie.spec returns read-decimal-requires under-requires returns-2)
+read-flag-spec = tie.close (tie.spec returns (λ c κs. search needs) under-requires returns-2)

@@ -12,31 +12,10 @@ use Rattle.sheet_values.proofs.read.read_whole.Tie as tie
 returns : tie.Need-returns
 returns c = sym (whole-empty (c .before .before .args .digits .now) (c .if1 .taken))
 
-shared-slice-read-if2 : tie.Need-shared-slice-read-if2
-shared-slice-read-if2 c = search needs
-
-read-decimal-requires : tie.Need-read-decimal-requires
-read-decimal-requires c κs = search needs
-
 returns-2 : tie.Need-returns-2
 returns-2 c =
     let e = c .before .before .before in
     c .read-decimal .ensures ∙ sym (whole-unsigned (e .before .before .args .digits .now) (e .if1 .left) (c .before .if2 .taken))
-
-sub-read-decimal : tie.Need-sub-read-decimal
-sub-read-decimal c = search needs
-
-part-read-decimal-start : tie.Need-part-read-decimal-start
-part-read-decimal-start c = search needs
-
-part-read-decimal-end : tie.Need-part-read-decimal-end
-part-read-decimal-end c = search needs
-
-read-decimal-requires-2 : tie.Need-read-decimal-requires-2
-read-decimal-requires-2 c κs = search needs
-
-negative-requires : tie.Need-negative-requires
-negative-requires c κs = search needs
 
 returns-3 : tie.Need-returns-3
 returns-3 c =
@@ -48,16 +27,4 @@ returns-3 c =
     ∙ sym (whole-negative bs (s .if1 .left) (e .if2 .left))
 
 pub read-whole-spec : {M : Type 1} → statement M
-read-whole-spec =
-    tie.close
-    (tie.spec
-    returns
-    shared-slice-read-if2
-    read-decimal-requires
-    returns-2
-    sub-read-decimal
-    part-read-decimal-start
-    part-read-decimal-end
-    read-decimal-requires-2
-    negative-requires
-    returns-3)
+read-whole-spec = tie.close (tie.spec returns (λ c. search needs) (λ c κs. search needs) returns-2 (λ c. search needs) (λ c. search needs) (λ c. search needs) (λ c κs. search needs) (λ c κs. search needs) returns-3)

@@ -8,26 +8,8 @@ use borrow.Author.Needs.{needs}
 use Rattle.sheet_values.proofs.read.under.Statement.{statement}
 use Rattle.sheet_values.proofs.read.under.Tie as tie
 
-enum-known-number : tie.Need-enum-known-number
-enum-known-number c = search needs
-
-enum-told : tie.Need-enum-told
-enum-told c = search needs
-
 returns : tie.Need-returns
 returns c = λ bytes. sym (ap (λ x. under (c .before .before .args .kind) (numberOf x)) (c .enum-told .given .1))
-
-slice-aggregate-read-argument : tie.Need-slice-aggregate-read-argument
-slice-aggregate-read-argument c = search needs
-
-read-argument-requires : tie.Need-read-argument-requires
-read-argument-requires c κs = search needs
-
-enum-known-v : tie.Need-enum-known-v
-enum-known-v c = search needs
-
-enum-told-2 : tie.Need-enum-told-2
-enum-told-2 c = search needs
 
 returns-2 : tie.Need-returns-2
 returns-2 c =
@@ -53,15 +35,4 @@ returns-3 c =
     absurd (under-never kind (n .0 .0) well (sym (r .read-argument .ensures) ∙ c .enum-told2 .given .1))
 
 pub under-spec : {M : Type 1} → statement M
-under-spec =
-    tie.close
-    (tie.spec
-    enum-known-number
-    enum-told
-    returns
-    slice-aggregate-read-argument
-    read-argument-requires
-    enum-known-v
-    enum-told-2
-    returns-2
-    returns-3)
+under-spec = tie.close (tie.spec (λ c. search needs) (λ c. search needs) returns (λ c. search needs) (λ c κs. search needs) (λ c. search needs) (λ c. search needs) returns-2 returns-3)

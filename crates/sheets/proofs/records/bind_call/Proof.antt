@@ -8,12 +8,6 @@ use borrow.Author.Needs.{needs}
 use Rattle.sheets.proofs.records.bind_call.Statement.{statement}
 use Rattle.sheets.proofs.records.bind_call.Tie as tie
 
-slice-aggregate-write-call : tie.Need-slice-aggregate-write-call
-slice-aggregate-write-call c = search needs
-
-slice-aggregate-write-call-2 : tie.Need-slice-aggregate-write-call-2
-slice-aggregate-write-call-2 c = search needs
-
 write-call-requires : tie.Need-write-call-requires
 write-call-requires c κs =
     let start = c .before .before .before .before .before .before .before .before in
@@ -35,12 +29,6 @@ slice-aggregate-bind-records-2 c =
     let wrote = c .before .before .before .before in
     sym (length-take-le _ _ (wrote .write-call .ensures .bytes-within))
 
-bind-records-requires : tie.Need-bind-records-requires
-bind-records-requires c κs = search needs
-
-same-length : tie.Need-same-length
-same-length c = search needs
-
 returns : tie.Need-returns
 returns c =
     let bound = c .before .before in
@@ -51,16 +39,4 @@ returns c =
     (wrote .write-call .result) (wrote .write-call .ensures) (a .out .now) (bound .bind-records .last .1 .1 .1 .1 .0) (bound .bind-records .result) (bound .bind-records .ensures)
 
 pub bind-call-spec : {M : Type 1} → statement M
-bind-call-spec =
-    tie.close
-    (tie.spec
-    slice-aggregate-write-call
-    slice-aggregate-write-call-2
-    write-call-requires
-    array-share-prefix-cells
-    slice-aggregate-bind-records
-    array-share-prefix-area
-    slice-aggregate-bind-records-2
-    bind-records-requires
-    same-length
-    returns)
+bind-call-spec = tie.close (tie.spec (λ c. search needs) (λ c. search needs) write-call-requires array-share-prefix-cells slice-aggregate-bind-records array-share-prefix-area slice-aggregate-bind-records-2 (λ c κs. search needs) (λ c. search needs) returns)

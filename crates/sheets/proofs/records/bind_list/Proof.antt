@@ -5,24 +5,12 @@ use borrow.Author.Needs.{needs}
 use Rattle.sheets.proofs.records.bind_list.Statement.{statement}
 use Rattle.sheets.proofs.records.bind_list.Tie as tie
 
-slice-aggregate-bind : tie.Need-slice-aggregate-bind
-slice-aggregate-bind c = search needs
-
-bind-requires : tie.Need-bind-requires
-bind-requires c κs = search needs
-
-slice-aggregate-write-outcome : tie.Need-slice-aggregate-write-outcome
-slice-aggregate-write-outcome c = search needs
-
 write-outcome-requires : tie.Need-write-outcome-requires
 write-outcome-requires c κs =
     let bound = c .before .before .before in
     let start = bound .before .before .before .before .before .before in
     let a = start .args in
     printed-room (a .spec .now) (a .list) (start .pre .0) (a .cells .now) (a .call .now) (bound .bind .last .1 .1 .1 .1 .0) (bound .bind .result) (bound .bind .ensures) (a .out .now) (start .pre .1)
-
-same-length : tie.Need-same-length
-same-length c = search needs
 
 returns : tie.Need-returns
 returns c =
@@ -33,12 +21,4 @@ returns c =
     printed-put (a .spec .now) (a .list) (start .pre .0) (a .cells .now) (a .call .now) (bound .bind .last .1 .1 .1 .1 .0) (bound .bind .result) (bound .bind .ensures) (a .out .now) (wrote .write-outcome .last .1 .1 .1 .1 .1 .0) (wrote .write-outcome .result) (wrote .write-outcome .ensures)
 
 pub bind-list-spec : {M : Type 1} → statement M
-bind-list-spec =
-    tie.close
-    (tie.spec
-    slice-aggregate-bind
-    bind-requires
-    slice-aggregate-write-outcome
-    write-outcome-requires
-    same-length
-    returns)
+bind-list-spec = tie.close (tie.spec (λ c. search needs) (λ c κs. search needs) (λ c. search needs) write-outcome-requires (λ c. search needs) returns)

@@ -9,21 +9,6 @@ use borrow.Author.Needs.{needs}
 use Rattle.sheets.proofs.records.bind_records.Statement.{statement}
 use Rattle.sheets.proofs.records.bind_records.Tie as tie
 
-build-requires : tie.Need-build-requires
-build-requires c κs = search needs
-
-enum-known-listed : tie.Need-enum-known-listed
-enum-known-listed c = search needs
-
-slice-aggregate-write-refusal : tie.Need-slice-aggregate-write-refusal
-slice-aggregate-write-refusal c = search needs
-
-write-refusal-requires : tie.Need-write-refusal-requires
-write-refusal-requires c κs = search needs
-
-same-length : tie.Need-same-length
-same-length c = search needs
-
 returns : tie.Need-returns
 returns c =
     let wrote = c .before .before in
@@ -33,9 +18,6 @@ returns c =
     put-same _ _
     (sym (refused-records (a .spec-cells .now) (a .spec .now) (a .call-cells .now) (a .call .now) (told .listed .given .0 .0) (sym (built .build .ensures .answer) ∙ ap answerOf (told .listed .given .1))))
     (wrote .write-refusal .ensures)
-
-enum-told : tie.Need-enum-told
-enum-told c = search needs
 
 bind-list-requires : tie.Need-bind-list-requires
 bind-list-requires c κs =
@@ -53,9 +35,6 @@ bind-list-requires c κs =
       start .pre,
     )
 
-same-length-2 : tie.Need-same-length-2
-same-length-2 c = search needs
-
 returns-2 : tie.Need-returns-2
 returns-2 c =
     let ended = c .before .before in
@@ -69,16 +48,4 @@ returns-2 c =
     (ended .bind-list .ensures)
 
 pub bind-records-spec : {M : Type 1} → statement M
-bind-records-spec =
-    tie.close
-    (tie.spec
-    build-requires
-    enum-known-listed
-    slice-aggregate-write-refusal
-    write-refusal-requires
-    same-length
-    returns
-    enum-told
-    bind-list-requires
-    same-length-2
-    returns-2)
+bind-records-spec = tie.close (tie.spec (λ c κs. search needs) (λ c. search needs) (λ c. search needs) (λ c κs. search needs) (λ c. search needs) returns (λ c. search needs) bind-list-requires (λ c. search needs) returns-2)

@@ -8,12 +8,6 @@ use borrow.Author.Needs.{needs}
 use Rattle.sheets.proofs.records.bind_sheets.Statement.{statement}
 use Rattle.sheets.proofs.records.bind_sheets.Tie as tie
 
-slice-aggregate-write-parameters : tie.Need-slice-aggregate-write-parameters
-slice-aggregate-write-parameters c = search needs
-
-slice-aggregate-write-parameters-2 : tie.Need-slice-aggregate-write-parameters-2
-slice-aggregate-write-parameters-2 c = search needs
-
 write-parameters-requires : tie.Need-write-parameters-requires
 write-parameters-requires c κs =
     let start = c .before .before .before .before .before in
@@ -35,12 +29,6 @@ slice-aggregate-bind-call-2 c =
     let wrote = c .before .before .before .before in
     sym (length-take-le _ _ (wrote .write-parameters .ensures .bytes-within))
 
-bind-call-requires : tie.Need-bind-call-requires
-bind-call-requires c κs = search needs
-
-same-length : tie.Need-same-length
-same-length c = search needs
-
 returns : tie.Need-returns
 returns c =
     let bound = c .before .before in
@@ -51,16 +39,4 @@ returns c =
     (wrote .write-parameters .result) (wrote .write-parameters .ensures) (a .out .now) (bound .bind-call .last .1 .1 .1 .1 .0) (bound .bind-call .result) (bound .bind-call .ensures)
 
 pub bind-sheets-spec : {M : Type 1} → statement M
-bind-sheets-spec =
-    tie.close
-    (tie.spec
-    slice-aggregate-write-parameters
-    slice-aggregate-write-parameters-2
-    write-parameters-requires
-    array-share-prefix-cells
-    slice-aggregate-bind-call
-    array-share-prefix-area
-    slice-aggregate-bind-call-2
-    bind-call-requires
-    same-length
-    returns)
+bind-sheets-spec = tie.close (tie.spec (λ c. search needs) (λ c. search needs) write-parameters-requires array-share-prefix-cells slice-aggregate-bind-call array-share-prefix-area slice-aggregate-bind-call-2 (λ c κs. search needs) (λ c. search needs) returns)

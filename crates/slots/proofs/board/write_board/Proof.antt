@@ -9,17 +9,11 @@ use Rattle.slots.proofs.board.write_board.Tie as tie
 add-left-over : tie.Need-add-left-over
 add-left-over c = let pre = c .before .before .before .pre in omega (arith, pre .few .few-p, pre .few .few-s)
 
-left-over-requires : tie.Need-left-over-requires
-left-over-requires c κs = search needs
-
 write-slots-requires : tie.Need-write-slots-requires
 write-slots-requires c κs = let pre = c .before .before .before .before .before .pre in (pre .room, omega (arith, pre .long))
 
 mul-write-values : tie.Need-mul-write-values
 mul-write-values c = let pre = c .before .before .before .before .before .before .before .before .pre in omega (arith, pre .room)
-
-write-values-requires : tie.Need-write-values-requires
-write-values-requires c κs = search needs
 
 mul-write-named : tie.Need-mul-write-named
 mul-write-named c = let pre = c .before .before .before .before .before .before .before .before .before .before .before .before .pre in omega (arith, pre .room)
@@ -29,12 +23,6 @@ mul-write-named-2 c = let pre = c .before .before .before .before .before .befor
 
 add-write-named : tie.Need-add-write-named
 add-write-named c = let pre = c .before .before .before .before .before .before .before .before .before .before .before .before .pre in omega (arith, pre .room, c .before .before .before .before .before .before .before .before .left-over .ensures, pre .few .few-p, pre .few .few-s)
-
-write-named-requires : tie.Need-write-named-requires
-write-named-requires c κs = search needs
-
-same-length : tie.Need-same-length
-same-length c = search needs
 
 returns : tie.Need-returns
 returns c =
@@ -48,17 +36,4 @@ returns c =
     _ _ _ (slots .write-slots .result) (slots .write-slots .ensures) (values .write-values .ensures) (named .write-named .ensures)
 
 pub write-board-spec : {M : Type 1} → statement M
-write-board-spec =
-    tie.close
-    (tie.spec
-    add-left-over
-    left-over-requires
-    write-slots-requires
-    mul-write-values
-    write-values-requires
-    mul-write-named
-    mul-write-named-2
-    add-write-named
-    write-named-requires
-    same-length
-    returns)
+write-board-spec = tie.close (tie.spec add-left-over (λ c κs. search needs) write-slots-requires mul-write-values (λ c κs. search needs) mul-write-named mul-write-named-2 add-write-named (λ c κs. search needs) (λ c. search needs) returns)

@@ -25,41 +25,8 @@ abbrev μ-loop : tie.MeasureT-loop
 loop-holds : tie.Need-loop-holds Inv-loop μ-loop
 loop-holds c = (search needs, refl, λ area. sym (stored-none (c .before .before .args .board .now) (c .before .before .args .at) (omega (arith, c .before .before .pre .1))))
 
-mul-pair : tie.Need-mul-pair Inv-loop μ-loop
-mul-pair c = search needs
-
-element-copy-out-pair : tie.Need-element-copy-out-pair Inv-loop μ-loop
-element-copy-out-pair c = search needs
-
-mul-to : tie.Need-mul-to Inv-loop μ-loop
-mul-to c = search needs
-
-add-to : tie.Need-add-to Inv-loop μ-loop
-add-to c = search needs
-
-pair-at-requires : tie.Need-pair-at-requires Inv-loop μ-loop
-pair-at-requires c κs = search needs
-
-put-inside-requires : tie.Need-put-inside-requires Inv-loop μ-loop
-put-inside-requires c κs = search needs
-
-add-put-inside : tie.Need-add-put-inside Inv-loop μ-loop
-add-put-inside c = search needs
-
 add-pair-at : tie.Need-add-pair-at Inv-loop μ-loop
 add-pair-at c = omega (arith, c .before .before .before .before .before .before .before .before .before .before .before .pre .0 .near (c .before .before .before .before .before .before .before .before .loop .k) (search needs))
-
-pair-at-requires-2 : tie.Need-pair-at-requires-2 Inv-loop μ-loop
-pair-at-requires-2 c κs = search needs
-
-put-inside-requires-2 : tie.Need-put-inside-requires-2 Inv-loop μ-loop
-put-inside-requires-2 c κs = search needs
-
-add-k : tie.Need-add-k Inv-loop μ-loop
-add-k c = search needs
-
-loop-less : tie.Need-loop-less Inv-loop μ-loop
-loop-less c = omega arith
 
 loop-again : tie.Need-loop-again Inv-loop μ-loop
 loop-again c =
@@ -93,24 +60,4 @@ returns c =
     ∙ sym (held-listed area (a .cells .now) (a .rest .now) (a .count) (omega (arith, start .pre .0 .few, start .pre .0 .pairs))))
 
 pub write-named-spec : {M : Type 1} → statement M
-write-named-spec =
-    tie.close
-    (tie.spec
-    Inv-loop
-    μ-loop
-    loop-holds
-    mul-pair
-    element-copy-out-pair
-    mul-to
-    add-to
-    pair-at-requires
-    put-inside-requires
-    add-put-inside
-    add-pair-at
-    pair-at-requires-2
-    put-inside-requires-2
-    add-k
-    loop-less
-    loop-again
-    same-length
-    returns)
+write-named-spec = tie.close (tie.spec Inv-loop μ-loop loop-holds (λ c. search needs) (λ c. search needs) (λ c. search needs) (λ c. search needs) (λ c κs. search needs) (λ c κs. search needs) (λ c. search needs) add-pair-at (λ c κs. search needs) (λ c κs. search needs) (λ c. search needs) (λ c. omega arith) loop-again same-length returns)

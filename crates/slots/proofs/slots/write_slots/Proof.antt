@@ -25,35 +25,11 @@ abbrev μ-loop : tie.MeasureT-loop
 loop-holds : tie.Need-loop-holds Inv-loop μ-loop
 loop-holds c = (search needs, search needs, search needs, refl, filling-none (c .before .before .args .board .now))
 
-slot-at-requires : tie.Need-slot-at-requires Inv-loop μ-loop
-slot-at-requires c κs = search needs
-
-taken-requires : tie.Need-taken-requires Inv-loop μ-loop
-taken-requires c κs = search needs
-
 add-taken : tie.Need-add-taken Inv-loop μ-loop
 add-taken c = omega (arith, c .taken .ensures, at-most-one (isTaken (slotIn (c .before .slot-at .result) 0 0)))
 
-defaulted-requires : tie.Need-defaulted-requires Inv-loop μ-loop
-defaulted-requires c κs = search needs
-
 add-defaulted : tie.Need-add-defaulted Inv-loop μ-loop
 add-defaulted c = omega (arith, c .defaulted .ensures, at-most-one (isDefaulted (slotIn (c .before .before .slot-at .result) 0 0)))
-
-mul-put-inside : tie.Need-mul-put-inside Inv-loop μ-loop
-mul-put-inside c = search needs
-
-pair-requires : tie.Need-pair-requires Inv-loop μ-loop
-pair-requires c κs = search needs
-
-put-inside-requires : tie.Need-put-inside-requires Inv-loop μ-loop
-put-inside-requires c κs = search needs
-
-add-k : tie.Need-add-k Inv-loop μ-loop
-add-k c = search needs
-
-loop-less : tie.Need-loop-less Inv-loop μ-loop
-loop-less c = omega arith
 
 loop-again : tie.Need-loop-again Inv-loop μ-loop
 loop-again c =
@@ -85,22 +61,4 @@ returns c =
     subst (λ n. Filling (slotsOf (a .codes .now) (a .kinds .now) (a .payloads .now) (a .sources .now) (a .cells .now) (headOf (a .h)) (a .next) (a .star) (a .named) n) (a .board .now) (at .board) (record { taken = at .taken; defaulted = at .defaulted })) whole (at .inv .4)
 
 pub write-slots-spec : {M : Type 1} → statement M
-write-slots-spec =
-    tie.close
-    (tie.spec
-    Inv-loop
-    μ-loop
-    loop-holds
-    slot-at-requires
-    taken-requires
-    add-taken
-    defaulted-requires
-    add-defaulted
-    mul-put-inside
-    pair-requires
-    put-inside-requires
-    add-k
-    loop-less
-    loop-again
-    same-length
-    returns)
+write-slots-spec = tie.close (tie.spec Inv-loop μ-loop loop-holds (λ c κs. search needs) (λ c κs. search needs) add-taken (λ c κs. search needs) add-defaulted (λ c. search needs) (λ c κs. search needs) (λ c κs. search needs) (λ c. search needs) (λ c. omega arith) loop-again same-length returns)

@@ -5,21 +5,6 @@ use Rattle.rules.specs.Parameters.{comesBefore}
 use Rattle.builder.proofs.params.CurrentParameterStyle.positional_only.Statement.{statement}
 use Rattle.builder.proofs.params.CurrentParameterStyle.positional_only.Tie as tie
 
-enum-told : tie.Need-enum-told
-enum-told c = search needs
-
-add-result : tie.Need-add-result
-add-result c = search needs
-
-enum-told-2 : tie.Need-enum-told-2
-enum-told-2 c = search needs
-
-enum-told-3 : tie.Need-enum-told-3
-enum-told-3 c = search needs
-
-enum-told-4 : tie.Need-enum-told-4
-enum-told-4 c = search needs
-
 returns : tie.Need-returns
 unfolding comesBefore
 returns c = rw (c .enum-told .given .1)
@@ -37,15 +22,4 @@ unfolding comesBefore
 returns-4 c = rw (c .enum-told4 .given .1)
 
 pub positional-only-spec : {M : Type 1} → statement M
-positional-only-spec =
-    tie.close
-    (tie.spec
-    enum-told
-    add-result
-    enum-told-2
-    enum-told-3
-    enum-told-4
-    returns
-    returns-2
-    returns-3
-    returns-4)
+positional-only-spec = tie.close (tie.spec (λ c. search needs) (λ c. search needs) (λ c. search needs) (λ c. search needs) (λ c. search needs) returns returns-2 returns-3 returns-4)

@@ -6,9 +6,6 @@ use Rattle.builder.proofs.LawsRecord.{stepName-in, stepName-below, step
 use Rattle.builder.proofs.params.Step.name_inside.Statement.{statement}
 use Rattle.builder.proofs.params.Step.name_inside.Tie as tie
 
-is-name-requires : tie.Need-is-name-requires
-is-name-requires c κs = search needs
-
 returns : tie.Need-returns
 returns c =
     let a = c .before .before .before .before .args in
@@ -23,4 +20,4 @@ returns-3 c =
     sym (stepName-above (a .self) (a .area .now) (c .if2 .left))
 
 pub name-inside-spec : {M : Type 1} → statement M
-name-inside-spec = tie.close (tie.spec is-name-requires returns returns-2 returns-3)
+name-inside-spec = tie.close (tie.spec (λ c κs. search needs) returns returns-2 returns-3)

@@ -9,12 +9,6 @@ use Rattle.builder.proofs.LawsRecord.{uses-2, uses-3, uses-7, uses-belo
 use Rattle.builder.proofs.params.Step.uses_right.Statement.{statement}
 use Rattle.builder.proofs.params.Step.uses_right.Tie as tie
 
-is-default-requires : tie.Need-is-default-requires
-is-default-requires c κs = search needs
-
-no-default-requires : tie.Need-no-default-requires
-no-default-requires c κs = search needs
-
 returns : tie.Need-returns
 returns c =
     let a = c .before .before .before .before .before .before .before .args in
@@ -22,9 +16,6 @@ returns c =
     sym
     (uses-7 (a .self) (a .area .now) (omega arith) (c .before .before .if3 .taken)
     ∙ rw (ne-eqb (a .self .name) 0 (c .if4 .taken)))
-
-no-default-requires-2 : tie.Need-no-default-requires-2
-no-default-requires-2 c κs = search needs
 
 returns-2 : tie.Need-returns-2
 unfolding stepOf
@@ -57,15 +48,4 @@ returns-6 c =
     sym (uses-above (a .self) (a .area .now) (c .if3 .left))
 
 pub uses-right-spec : {M : Type 1} → statement M
-uses-right-spec =
-    tie.close
-    (tie.spec
-    is-default-requires
-    no-default-requires
-    returns
-    no-default-requires-2
-    returns-2
-    returns-3
-    returns-4
-    returns-5
-    returns-6)
+uses-right-spec = tie.close (tie.spec (λ c κs. search needs) (λ c κs. search needs) returns (λ c κs. search needs) returns-2 returns-3 returns-4 returns-5 returns-6)

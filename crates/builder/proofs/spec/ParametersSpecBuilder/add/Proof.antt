@@ -28,15 +28,6 @@ room c =
     let a = c .before .before .before .before .before .before .before .before .args in
     asked-room (a .area .now) (a .t1) (a .s) (asked c)
 
-may-add-requires : tie.Need-may-add-requires
-may-add-requires c κs = search needs
-
-enum-known-asked : tie.Need-enum-known-asked
-enum-known-asked c = search needs
-
-refused-requires : tie.Need-refused-requires
-refused-requires c κs = search needs
-
 returns : tie.Need-returns
 returns c =
     let a = c .before .before .before .before .before .before .before .before .before .before .args in
@@ -47,17 +38,8 @@ returns c =
     ∙ sym (c .before .before .before .before .may-add .ensures)
     ∙ ap answerOf (c .before .before .asked .given .1)))
 
-enum-told : tie.Need-enum-told
-enum-told c = search needs
-
-cast-self : tie.Need-cast-self
-cast-self c = search needs
-
 element-write-self : tie.Need-element-write-self
 element-write-self c = omega (arith, room (c .before))
-
-number-requires : tie.Need-number-requires
-number-requires c κs = search needs
 
 element-write-self-2 : tie.Need-element-write-self-2
 element-write-self-2 c = omega (arith, room (c .before .before))
@@ -111,25 +93,4 @@ returns-2 c =
     refl refl refl
 
 pub add-spec : {M : Type 1} → statement M
-add-spec =
-    tie.close
-    (tie.spec
-    may-add-requires
-    enum-known-asked
-    refused-requires
-    returns
-    enum-told
-    cast-self
-    element-write-self
-    number-requires
-    element-write-self-2
-    mul-self
-    element-write-self-3
-    mul-self-2
-    element-write-self-4
-    mul-self-3
-    element-write-self-5
-    add-self
-    positional-only-requires
-    positional-requires
-    returns-2)
+add-spec = tie.close (tie.spec (λ c κs. search needs) (λ c. search needs) (λ c κs. search needs) returns (λ c. search needs) (λ c. search needs) element-write-self (λ c κs. search needs) element-write-self-2 mul-self element-write-self-3 mul-self-2 element-write-self-4 mul-self-3 element-write-self-5 add-self positional-only-requires positional-requires returns-2)

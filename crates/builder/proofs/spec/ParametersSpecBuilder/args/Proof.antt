@@ -8,21 +8,12 @@ use Rattle.builder.proofs.LawsSpec.{adding-6, adding-args}
 use Rattle.builder.proofs.spec.ParametersSpecBuilder.args.Statement.{statement}
 use Rattle.builder.proofs.spec.ParametersSpecBuilder.args.Tie as tie
 
-refused-requires : tie.Need-refused-requires
-refused-requires c κs = search needs
-
 returns : tie.Need-returns
 returns c =
     let b = c .before .before .args .self in
     let s = c .before .before .args .s in
     let pre = c .before .before .pre in
     λ area. rw (c .refused .ensures) (adding-6 area b s args (act-code s 6 (pre .0)) (pre .1) (c .before .if1 .taken))
-
-push-requires : tie.Need-push-requires
-push-requires c κs = search needs
-
-with-requires : tie.Need-with-requires
-with-requires c κs = search needs
 
 returns-2 : tie.Need-returns-2
 returns-2 c =
@@ -37,4 +28,4 @@ returns-2 c =
     (p .positionalOnly) (p .positional) refl refl refl)
 
 pub args-spec : {M : Type 1} → statement M
-args-spec = tie.close (tie.spec refused-requires returns push-requires with-requires returns-2)
+args-spec = tie.close (tie.spec (λ c κs. search needs) returns (λ c κs. search needs) (λ c κs. search needs) returns-2)

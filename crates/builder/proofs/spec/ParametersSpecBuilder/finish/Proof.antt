@@ -9,9 +9,6 @@ use Rattle.builder.proofs.LawsSpec.{never-fine, never-refused}
 use Rattle.builder.proofs.spec.ParametersSpecBuilder.finish.Statement.{statement}
 use Rattle.builder.proofs.spec.ParametersSpecBuilder.finish.Tie as tie
 
-refused-requires : tie.Need-refused-requires
-refused-requires c κs = search needs
-
 returns : tie.Need-returns
 returns c =
     let b = c .before .before .before .args .self in
@@ -32,4 +29,4 @@ returns-2 c =
     }
 
 pub finish-spec : {M : Type 1} → statement M
-finish-spec = tie.close (tie.spec refused-requires returns returns-2)
+finish-spec = tie.close (tie.spec (λ c κs. search needs) returns returns-2)

@@ -11,39 +11,6 @@ use Rattle.builder.proofs.LawsSpec.{longer-stored}
 use Rattle.builder.proofs.spec.ParametersSpecBuilder.push.Statement.{statement}
 use Rattle.builder.proofs.spec.ParametersSpecBuilder.push.Tie as tie
 
-cast-self : tie.Need-cast-self
-cast-self c = search needs
-
-element-write-self : tie.Need-element-write-self
-element-write-self c = search needs
-
-number-requires : tie.Need-number-requires
-number-requires c κs = search needs
-
-element-write-self-2 : tie.Need-element-write-self-2
-element-write-self-2 c = search needs
-
-mul-self : tie.Need-mul-self
-mul-self c = search needs
-
-element-write-self-3 : tie.Need-element-write-self-3
-element-write-self-3 c = search needs
-
-mul-self-2 : tie.Need-mul-self-2
-mul-self-2 c = search needs
-
-element-write-self-4 : tie.Need-element-write-self-4
-element-write-self-4 c = search needs
-
-mul-self-3 : tie.Need-mul-self-3
-mul-self-3 c = search needs
-
-element-write-self-5 : tie.Need-element-write-self-5
-element-write-self-5 c = search needs
-
-add-self : tie.Need-add-self
-add-self c = search needs
-
 returns : tie.Need-returns
 unfolding stepOf
 returns c =
@@ -66,18 +33,4 @@ returns c =
     }
 
 pub push-spec : {M : Type 1} → statement M
-push-spec =
-    tie.close
-    (tie.spec
-    cast-self
-    element-write-self
-    number-requires
-    element-write-self-2
-    mul-self
-    element-write-self-3
-    mul-self-2
-    element-write-self-4
-    mul-self-3
-    element-write-self-5
-    add-self
-    returns)
+push-spec = tie.close (tie.spec (λ c. search needs) (λ c. search needs) (λ c κs. search needs) (λ c. search needs) (λ c. search needs) (λ c. search needs) (λ c. search needs) (λ c. search needs) (λ c. search needs) (λ c. search needs) (λ c. search needs) returns)

@@ -12,47 +12,14 @@ use Rattle.builder.proofs.LawsSpec.{refused-code, refused-plain, refuse
 use Rattle.builder.proofs.spec.ParametersSpecBuilder.step.Statement.{statement}
 use Rattle.builder.proofs.spec.ParametersSpecBuilder.step.Tie as tie
 
-enum-told : tie.Need-enum-told
-enum-told c = search needs
-
 no-more-positional-only-args-requires : tie.Need-no-more-positional-only-args-requires
 no-more-positional-only-args-requires c κs = ap styleOf (c .enum-told .given .1)
-
-enum-told-2 : tie.Need-enum-told-2
-enum-told-2 c = search needs
-
-refused-requires : tie.Need-refused-requires
-refused-requires c κs = search needs
-
-enum-told-3 : tie.Need-enum-told-3
-enum-told-3 c = search needs
-
-refused-requires-2 : tie.Need-refused-requires-2
-refused-requires-2 c κs = search needs
-
-enum-told-4 : tie.Need-enum-told-4
-enum-told-4 c = search needs
-
-refused-requires-3 : tie.Need-refused-requires-3
-refused-requires-3 c κs = search needs
 
 kwargs-requires : tie.Need-kwargs-requires
 kwargs-requires c κs = (c .before .match .keys2, under-first-three (c .before .before .before .args .self .«current_style») (c .match3 .keys1))
 
-enum-told-5 : tie.Need-enum-told-5
-enum-told-5 c = search needs
-
-refused-requires-4 : tie.Need-refused-requires-4
-refused-requires-4 c κs = search needs
-
 add-requires : tie.Need-add-requires
 add-requires c κs = (c .before .before .if1 .left, c .before .if2 .taken, under-first-three (c .before .before .before .before .before .args .self .«current_style») (c .match4 .keys1))
-
-enum-told-6 : tie.Need-enum-told-6
-enum-told-6 c = search needs
-
-refused-requires-5 : tie.Need-refused-requires-5
-refused-requires-5 c κs = search needs
 
 no-more-positional-args-requires : tie.Need-no-more-positional-args-requires
 no-more-positional-args-requires c κs = under-first-two (c .before .before .before .before .before .before .before .args .self .«current_style») (c .before .match5 .keys1)
@@ -62,12 +29,6 @@ args-requires c κs =
     let styled = c .before in
     let rest = styled .before .before .before .before in
     (omega (arith, c .if4 .left, styled .before .if3 .taken, styled .before .before .if2 .left, rest .match .rest .0 .1), under-first-two (rest .before .before .args .self .«current_style») (styled .match5 .keys1))
-
-refused-requires-6 : tie.Need-refused-requires-6
-refused-requires-6 c κs = search needs
-
-refused-requires-7 : tie.Need-refused-requires-7
-refused-requires-7 c κs = search needs
 
 returns : tie.Need-returns
 returns c =
@@ -139,36 +100,4 @@ returns-12 c =
     (c .before .if1 .came))
 
 pub step-spec : {M : Type 1} → statement M
-step-spec =
-    tie.close
-    (tie.spec
-    enum-told
-    no-more-positional-only-args-requires
-    enum-told-2
-    refused-requires
-    enum-told-3
-    refused-requires-2
-    enum-told-4
-    refused-requires-3
-    kwargs-requires
-    enum-told-5
-    refused-requires-4
-    add-requires
-    enum-told-6
-    refused-requires-5
-    no-more-positional-args-requires
-    args-requires
-    refused-requires-6
-    refused-requires-7
-    returns
-    returns-2
-    returns-3
-    returns-4
-    returns-5
-    returns-6
-    returns-7
-    returns-8
-    returns-9
-    returns-10
-    returns-11
-    returns-12)
+step-spec = tie.close (tie.spec (λ c. search needs) no-more-positional-only-args-requires (λ c. search needs) (λ c κs. search needs) (λ c. search needs) (λ c κs. search needs) (λ c. search needs) (λ c κs. search needs) kwargs-requires (λ c. search needs) (λ c κs. search needs) add-requires (λ c. search needs) (λ c κs. search needs) no-more-positional-args-requires args-requires (λ c κs. search needs) (λ c κs. search needs) returns returns-2 returns-3 returns-4 returns-5 returns-6 returns-7 returns-8 returns-9 returns-10 returns-11 returns-12)

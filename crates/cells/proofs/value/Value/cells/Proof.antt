@@ -9,72 +9,6 @@ use Rattle.cells.specs.Value.{cellsOf, pair}
 use Rattle.cells.proofs.value.Value.cells.Statement.{statement}
 use Rattle.cells.proofs.value.Value.cells.Tie as tie
 
-enum-told : tie.Need-enum-told
-enum-told c = search needs
-
-new-requires : tie.Need-new-requires
-new-requires c κs = search needs
-
-enum-known-self : tie.Need-enum-known-self
-enum-known-self c = search needs
-
-cast-new : tie.Need-cast-new
-cast-new c = search needs
-
-new-requires-2 : tie.Need-new-requires-2
-new-requires-2 c κs = search needs
-
-enum-known-self-2 : tie.Need-enum-known-self-2
-enum-known-self-2 c = search needs
-
-bits-of-whole-requires : tie.Need-bits-of-whole-requires
-bits-of-whole-requires c κs = search needs
-
-new-requires-3 : tie.Need-new-requires-3
-new-requires-3 c κs = search needs
-
-enum-known-self-3 : tie.Need-enum-known-self-3
-enum-known-self-3 c = search needs
-
-bits-of-real-requires : tie.Need-bits-of-real-requires
-bits-of-real-requires c κs = search needs
-
-new-requires-4 : tie.Need-new-requires-4
-new-requires-4 c κs = search needs
-
-enum-known-self-4 : tie.Need-enum-known-self-4
-enum-known-self-4 c = search needs
-
-new-requires-5 : tie.Need-new-requires-5
-new-requires-5 c κs = search needs
-
-enum-known-self-5 : tie.Need-enum-known-self-5
-enum-known-self-5 c = search needs
-
-payload-requires : tie.Need-payload-requires
-payload-requires c κs = search needs
-
-new-requires-6 : tie.Need-new-requires-6
-new-requires-6 c κs = search needs
-
-enum-known-self-6 : tie.Need-enum-known-self-6
-enum-known-self-6 c = search needs
-
-payload-requires-2 : tie.Need-payload-requires-2
-payload-requires-2 c κs = search needs
-
-new-requires-7 : tie.Need-new-requires-7
-new-requires-7 c κs = search needs
-
-enum-known-self-7 : tie.Need-enum-known-self-7
-enum-known-self-7 c = search needs
-
-cast-new-2 : tie.Need-cast-new-2
-cast-new-2 c = search needs
-
-new-requires-8 : tie.Need-new-requires-8
-new-requires-8 c κs = search needs
-
 returns : tie.Need-returns
 returns c = c .new .ensures ∙ sym (ap cellsOf (c .before .enum-told .given .1))
 
@@ -111,36 +45,4 @@ returns-8 : tie.Need-returns-8
 returns-8 c = c .new8 .ensures ∙ sym (ap cellsOf (c .before .before .self7 .given .1))
 
 pub cells-spec : {M : Type 1} → statement M
-cells-spec =
-    tie.close
-    (tie.spec
-    enum-told
-    new-requires
-    enum-known-self
-    cast-new
-    new-requires-2
-    enum-known-self-2
-    bits-of-whole-requires
-    new-requires-3
-    enum-known-self-3
-    bits-of-real-requires
-    new-requires-4
-    enum-known-self-4
-    new-requires-5
-    enum-known-self-5
-    payload-requires
-    new-requires-6
-    enum-known-self-6
-    payload-requires-2
-    new-requires-7
-    enum-known-self-7
-    cast-new-2
-    new-requires-8
-    returns
-    returns-2
-    returns-3
-    returns-4
-    returns-5
-    returns-6
-    returns-7
-    returns-8)
+cells-spec = tie.close (tie.spec (λ c. search needs) (λ c κs. search needs) (λ c. search needs) (λ c. search needs) (λ c κs. search needs) (λ c. search needs) (λ c κs. search needs) (λ c κs. search needs) (λ c. search needs) (λ c κs. search needs) (λ c κs. search needs) (λ c. search needs) (λ c κs. search needs) (λ c. search needs) (λ c κs. search needs) (λ c κs. search needs) (λ c. search needs) (λ c κs. search needs) (λ c κs. search needs) (λ c. search needs) (λ c. search needs) (λ c κs. search needs) returns returns-2 returns-3 returns-4 returns-5 returns-6 returns-7 returns-8)

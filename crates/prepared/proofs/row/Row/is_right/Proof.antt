@@ -10,9 +10,6 @@ use Rattle.prepared.proofs.LawsRows.{right-stands, right-uses, right-na
 use Rattle.prepared.proofs.row.Row.is_right.Statement.{statement}
 use Rattle.prepared.proofs.row.Row.is_right.Tie as tie
 
-may-stand-requires : tie.Need-may-stand-requires
-may-stand-requires c κs = search needs
-
 returns : tie.Need-returns
 unfolding rowIn
 returns c =
@@ -20,12 +17,6 @@ returns c =
     let a = stood .before .before .args in
     let r = rowIn (a .self) in
     right-stands (a .area .now) r (stood .may-stand .ensures (r .step .default)) (c .if1 .taken)
-
-step-requires : tie.Need-step-requires
-step-requires c κs = search needs
-
-uses-right-requires : tie.Need-uses-right-requires
-uses-right-requires c κs = search needs
 
 returns-2 : tie.Need-returns-2
 unfolding rowIn stepOf
@@ -37,9 +28,6 @@ returns-2 c =
     let r = rowIn (a .self) in
     right-uses (a .area .now) r (stood .may-stand .ensures (r .step .default)) (stepped .before .if1 .left)
     (used .uses-right .ensures ∙ ap (λ s. usesRight (a .area .now) (act s) (s .name) (s .default)) (stepped .step .ensures)) (c .if2 .taken)
-
-name-right-requires : tie.Need-name-right-requires
-name-right-requires c κs = search needs
 
 returns-3 : tie.Need-returns-3
 unfolding rowIn stepOf
@@ -53,9 +41,6 @@ returns-3 c =
     right-name (a .area .now) r (stood .may-stand .ensures (r .step .default)) (stepped .before .if1 .left)
     (used .uses-right .ensures ∙ ap (λ s. usesRight (a .area .now) (act s) (s .name) (s .default)) (stepped .step .ensures)) (asked .if2 .left)
     (c .before .if3 .taken) (c .name-right .ensures)
-
-key-of-requires : tie.Need-key-of-requires
-key-of-requires c κs = search needs
 
 returns-4 : tie.Need-returns-4
 unfolding rowIn stepOf
@@ -72,15 +57,4 @@ returns-4 c =
     (above .if3 .left) (c .before .key-of .ensures)
 
 pub is-right-spec : {M : Type 1} → statement M
-is-right-spec =
-    tie.close
-    (tie.spec
-    may-stand-requires
-    returns
-    step-requires
-    uses-right-requires
-    returns-2
-    name-right-requires
-    returns-3
-    key-of-requires
-    returns-4)
+is-right-spec = tie.close (tie.spec (λ c κs. search needs) returns (λ c κs. search needs) (λ c κs. search needs) returns-2 (λ c κs. search needs) returns-3 (λ c κs. search needs) returns-4)

@@ -15,11 +15,5 @@ returns c =
     let name = start .args .self .name in
     ap (λ n. n % 929) (start .pre .1 ∙ last-few (bytesAt area name) (bytes-few area name (c .if1 .taken)))
 
-last-key-requires : tie.Need-last-key-requires
-last-key-requires c κs = search needs
-
-returns-2 : tie.Need-returns-2
-returns-2 c = search needs
-
 pub slot-spec : {M : Type 1} → statement M
-slot-spec = tie.close (tie.spec returns last-key-requires returns-2)
+slot-spec = tie.close (tie.spec returns (λ c κs. search needs) (λ c. search needs))

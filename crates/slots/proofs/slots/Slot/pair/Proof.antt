@@ -7,30 +7,6 @@ use borrow.Author.Needs.{needs}
 use Rattle.slots.proofs.slots.Slot.pair.Statement.{statement}
 use Rattle.slots.proofs.slots.Slot.pair.Tie as tie
 
-enum-told : tie.Need-enum-told
-enum-told c = search needs
-
-new-requires : tie.Need-new-requires
-new-requires c κs = search needs
-
-enum-known-self : tie.Need-enum-known-self
-enum-known-self c = search needs
-
-enum-known-self-2 : tie.Need-enum-known-self-2
-enum-known-self-2 c = search needs
-
-enum-told-2 : tie.Need-enum-told-2
-enum-told-2 c = search needs
-
-new-requires-2 : tie.Need-new-requires-2
-new-requires-2 c κs = search needs
-
-enum-told-3 : tie.Need-enum-told-3
-enum-told-3 c = search needs
-
-new-requires-3 : tie.Need-new-requires-3
-new-requires-3 c κs = search needs
-
 returns : tie.Need-returns
 unfolding noValue
 returns c = ap pairOf (c .new .ensures) ∙ sym (ap (λ x. slotValue (slotIn x (c .before .before .before .args .star) (c .before .before .before .args .named))) (c .before .enum-told .given .1))
@@ -48,19 +24,4 @@ returns-5 : tie.Need-returns-5
 returns-5 c = ap pairOf (c .new3 .ensures) ∙ sym (ap (λ x. slotValue (slotIn x (c .before .before .before .args .star) (c .before .before .before .args .named))) (c .before .enum-told3 .given .1))
 
 pub pair-spec : {M : Type 1} → statement M
-pair-spec =
-    tie.close
-    (tie.spec
-    enum-told
-    new-requires
-    enum-known-self
-    enum-known-self-2
-    enum-told-2
-    new-requires-2
-    enum-told-3
-    new-requires-3
-    returns
-    returns-2
-    returns-3
-    returns-4
-    returns-5)
+pair-spec = tie.close (tie.spec (λ c. search needs) (λ c κs. search needs) (λ c. search needs) (λ c. search needs) (λ c. search needs) (λ c κs. search needs) (λ c. search needs) (λ c κs. search needs) returns returns-2 returns-3 returns-4 returns-5)
