@@ -30,7 +30,8 @@
  *   0      the number: 0 answered, 1 to 30 refused by that question of 01, LIUWDOM_NOT_PREPARED, LIUWDOM_NO_ROOM
  *   1      the area of the name in a refusal's detail: LIUWDOM_NO_AREA, LIUWDOM_SPEC_AREA (16, 20 to 22) or LIUWDOM_CALL_AREA (19, 24)
  *   2, 3   where that name starts in its area, and its length
- *   4 to 7 what is answered, as each function says; refused by 23 and 24: how many are left over (4); by 26: least, most and got (4, 5, 6)
+ *   4 to 7 what is answered, as each function says; refused by 23 and 24: how many are left over (4); by 26: least, most and got (4, 5, 6);
+ *          by 30: the line (4)
  *
  * Cells without a use are 0.
  */
@@ -47,6 +48,9 @@
 #define LIUWDOM_PREPARED 386   /* cells of the output of liuwdom_prepare */
 #define LIUWDOM_PRINTED 8192   /* bytes of the output of liuwdom_parameters_str */
 #define LIUWDOM_OUTPUT 40960   /* bytes of the output of liuwdom_bind */
+#define LIUWDOM_SPEC_CELLS 265 /* cells of the parameter record of liuwdom_read_sheets */
+#define LIUWDOM_CALL_CELLS 774 /* cells of its call record */
+#define LIUWDOM_TEXTS 16384    /* bytes of each of its areas */
 
 /* Cells of an answer. */
 #define LIUWDOM_AT_NUMBER 0
@@ -173,6 +177,15 @@ uint64_t liuwdom_parameters_str(const uint64_t *spec_cells, size_t spec_cells_le
  * answer[4]: how many bytes were written; there is no byte 0 behind them.
  */
 uint64_t liuwdom_bind(const uint8_t *input, size_t input_len, uint8_t *out, size_t out_len, uint64_t *answer);
+
+/*
+ * Reads a parameter sheet, a blank line and a call sheet into their two records, those that liuwdom_bind binds. LIUWDOM_NO_ROOM where an output
+ * is shorter than LIUWDOM_SPEC_CELLS, LIUWDOM_TEXTS, LIUWDOM_CALL_CELLS or LIUWDOM_TEXTS, in this order of outputs; then 30. Whether the records
+ * pass 1 to 14 is not asked.
+ * answer[4..7]: how many were written, from the first: cells to spec_cells, bytes to spec, cells to call_cells, bytes to call.
+ */
+uint64_t liuwdom_read_sheets(const uint8_t *input, size_t input_len, uint64_t *spec_cells, size_t spec_cells_len, uint8_t *spec,
+                             size_t spec_len, uint64_t *call_cells, size_t call_cells_len, uint8_t *call, size_t call_len, uint64_t *answer);
 
 /*
  * The slot reader, over a board's slots or any cells: two cells are a slot, an odd last cell is none, kind 0 is empty. `at` counts slots.

@@ -1,6 +1,6 @@
 //! Calls, and the accessors that look at a call alone.
 
-use crate::records::{self, kind, Pair, RawRefusal, Record, BOARD, PAIR, VALUE};
+use crate::records::{self, kind, Pair, RawRefusal, Record, BOARD, HEAD, PAIR, VALUE};
 use crate::refusal::Refusal;
 use crate::value::{add_text, text_at, Areas, Value};
 
@@ -39,6 +39,14 @@ impl Key {
             Key::Other(value) => return value.pair(kind::CALL_TEXT, area),
         };
         Pair { kind, payload }
+    }
+
+    fn of(value: Value) -> Key {
+        match value {
+            Value::Text(bytes) => Key::Text(bytes),
+            Value::Whole(number) => Key::Whole(number),
+            other => Key::Other(other),
+        }
     }
 }
 
@@ -148,6 +156,35 @@ impl Call {
         record.push_values(items);
         record.push_entries(entries);
         record
+    }
+
+    /// What cells and an area say; nothing where they are no call record (9, 10), or a value or a name is none (11).
+    ///
+    /// ```
+    /// # use liuwdom::Call;
+    /// let call = Call::new().positional("B3").named("start", 400).items([430]).entries([("crop", "vine")]);
+    /// assert_eq!(Call::from_record(&call.record()), Some(call));
+    /// ```
+    pub fn from_record(record: &Record) -> Option<Call> {
+        let mut runs = Runs::of(record)?;
+        let [p, n, star_kind, s, double_kind, d] = runs.head;
+        let call = Call {
+            positionals: runs.values(p)?,
+            named: runs.named(n)?,
+            star: match (star_kind, runs.values(s)?) {
+                (0, items) if items.is_empty() => Star::Absent,
+                (1, items) => Star::Items(items),
+                (2, items) if items.is_empty() => Star::NotIterable,
+                _ => return None,
+            },
+            double: match (double_kind, runs.entries(d)?) {
+                (0, entries) if entries.is_empty() => Double::Absent,
+                (1, entries) => Double::Entries(entries),
+                (2, entries) if entries.is_empty() => Double::NotDictionary,
+                _ => return None,
+            },
+        };
+        runs.left.is_empty().then_some(call)
     }
 
     /// The written names and then the entries (9 to 14, 17 to 19).
@@ -261,6 +298,63 @@ impl Record {
     }
 }
 
+// A call's record while it is read: its head, and the cells that are left.
+struct Runs<'a> {
+    head: [u64; HEAD],
+    left: &'a [u64],
+    areas: Areas<'a>,
+}
+
+impl<'a> Runs<'a> {
+    fn of(record: &'a Record) -> Option<Runs<'a>> {
+        let (head, left) = record.cells.split_at_checked(HEAD)?;
+        Some(Runs {
+            head: head.try_into().ok()?,
+            left,
+            areas: record.areas(),
+        })
+    }
+
+    // The next `count` things of so many cells, each as `read` takes it.
+    fn each<T>(
+        &mut self,
+        width: usize,
+        count: u64,
+        read: impl Fn(&[u64], Areas<'a>) -> Option<T>,
+    ) -> Option<Vec<T>> {
+        let cells = usize::try_from(count).ok()?.checked_mul(width)?;
+        let (run, left) = self.left.split_at_checked(cells)?;
+        self.left = left;
+        let things = run.chunks_exact(width);
+        things.map(|cells| read(cells, self.areas)).collect()
+    }
+
+    fn values(&mut self, count: u64) -> Option<Vec<Value>> {
+        self.each(VALUE, count, |cells, areas| areas.value(pair(cells)))
+    }
+
+    fn named(&mut self, count: u64) -> Option<Vec<(Vec<u8>, Value)>> {
+        self.each(PAIR, count, |cells, areas| named(cells, areas))
+    }
+
+    fn entries(&mut self, count: u64) -> Option<Vec<(Key, Value)>> {
+        self.each(PAIR, count, |cells, areas| {
+            let key = Key::of(areas.value(pair(cells))?);
+            Some((key, areas.value(pair(&cells[VALUE..]))?))
+        })
+    }
+}
+
+// A name, which is a text of the call area, and a value.
+fn named(cells: &[u64], areas: Areas) -> Option<(Vec<u8>, Value)> {
+    let name = pair(cells);
+    if name.kind != kind::CALL_TEXT {
+        return None;
+    }
+    let bytes = text_at(areas.call, name.payload)?.to_vec();
+    Some((bytes, areas.value(pair(&cells[VALUE..]))?))
+}
+
 pub(crate) fn pair(cells: &[u64]) -> Pair {
     Pair {
         kind: cells[0],
@@ -278,10 +372,5 @@ pub(crate) fn values_in(cells: &[u64], areas: Areas) -> Vec<Value> {
 
 pub(crate) fn named_in(cells: &[u64], areas: Areas) -> Vec<(Vec<u8>, Value)> {
     let pairs = cells.chunks_exact(PAIR);
-    pairs
-        .filter_map(|cells| {
-            let name = text_at(areas.call, cells[1])?;
-            Some((name.to_vec(), areas.value(pair(&cells[VALUE..]))?))
-        })
-        .collect()
+    pairs.filter_map(|cells| named(cells, areas)).collect()
 }

@@ -142,6 +142,20 @@ unsafe extern "C" {
         answer: *mut u64,
     ) -> u64;
 
+    pub fn liuwdom_read_sheets(
+        input: *const u8,
+        input_len: usize,
+        spec_cells: *mut u64,
+        spec_cells_len: usize,
+        spec: *mut u8,
+        spec_len: usize,
+        call_cells: *mut u64,
+        call_cells_len: usize,
+        call: *mut u8,
+        call_len: usize,
+        answer: *mut u64,
+    ) -> u64;
+
     pub fn liuwdom_read_next(
         slots: *const u64,
         slots_len: usize,

@@ -32,6 +32,12 @@ pub const PREPARED: usize = 386;
 pub const PRINTED: usize = 8_192;
 /// Bytes that the output for sheets needs at least.
 pub const OUTPUT: usize = 40_960;
+/// Cells of the longest parameter record, which its output needs at least.
+pub const SPEC_CELLS: usize = 265;
+/// Cells of the longest call record, which its output needs at least.
+pub const CALL_CELLS: usize = 774;
+/// Bytes that the output for the texts of a sheet needs at least.
+pub const TEXTS: usize = 16_384;
 
 /// Cells before the arguments of a call record.
 pub const HEAD: usize = 6;
@@ -113,7 +119,8 @@ pub struct RawRefusal {
     /// 1 to 30 as in document 01, [`NOT_PREPARED`] or [`NO_ROOM`].
     pub number: u64,
     pub name: Option<Place>,
-    /// The detail's numbers: the count of 23 and 24; least, most and got of 26; for 27 and 28 the third is where the reader stands.
+    /// The detail's numbers: the count of 23 and 24; least, most and got of 26; for 27 and 28 the third is where the reader stands; the line of
+    /// 30.
     pub values: [u64; 4],
 }
 
@@ -281,6 +288,33 @@ pub fn parameters_str_cells(
 /// Reads two sheets and prints how the call binds, and says how many bytes that took.
 pub fn bind_bytes(input: &[u8], out: &mut [u8]) -> Result<usize, RawRefusal> {
     ask!(liuwdom_bind(input; ; out)).map(number)
+}
+
+/// How many cells and bytes the records of two sheets take.
+#[derive(Clone, Copy, Debug, PartialEq, Eq)]
+pub struct Lengths {
+    pub spec_cells: usize,
+    pub spec: usize,
+    pub call_cells: usize,
+    pub call: usize,
+}
+
+/// Reads two sheets into both records and the areas of their texts, and says how long each is (30).
+pub fn read_sheets_bytes(
+    input: &[u8],
+    spec_cells: &mut [u64],
+    spec: &mut [u8],
+    call_cells: &mut [u64],
+    call: &mut [u8],
+) -> Result<Lengths, RawRefusal> {
+    let lengths = ask!(liuwdom_read_sheets(input; ; spec_cells, spec, call_cells, call))?;
+    let [spec_cells, spec, call_cells, call] = lengths.map(|length| length as usize);
+    Ok(Lengths {
+        spec_cells,
+        spec,
+        call_cells,
+        call,
+    })
 }
 
 /// Two cells of a slot.

@@ -103,6 +103,7 @@ impl Refusal {
                 max: second,
                 got: third,
             },
+            30 => Refusal::BadSheet { line: first },
             other => Refusal::without_detail(other),
         }
     }
@@ -267,15 +268,13 @@ mod tests {
         Refusal::of(raw, b"xab", b"")
     }
 
-    // 30 is never answered over cells: bind prints it.
     #[test]
     fn each_number_has_its_refusal() {
         let mut told = HashSet::new();
-        for number in (1..=29).chain([NOT_PREPARED, NO_ROOM]) {
+        for number in (1..=30).chain([NOT_PREPARED, NO_ROOM]) {
             assert_eq!(of(number).number(), number);
             assert!(told.insert(of(number).to_string()));
         }
-        assert_eq!(Refusal::BadSheet { line: 4 }.number(), 30);
     }
 
     #[test]
@@ -291,7 +290,6 @@ mod tests {
             told(26),
             "the wrong number of values by position: from 7 to 8, got 9"
         );
-        let sheet = Refusal::BadSheet { line: 4 };
-        assert_eq!(sheet.to_string(), "the sheet breaks a rule at line 4");
+        assert_eq!(told(30), "the sheet breaks a rule at line 7");
     }
 }

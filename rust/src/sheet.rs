@@ -1,10 +1,8 @@
 //! Sheets: the text form of a parameter list and a call, and of how the call ends.
 
-use std::str;
-
 use crate::bound::{Bound, Slot};
-use crate::call::{Call, Double, Key, Star};
-use crate::records::{self, OUTPUT};
+use crate::call::Call;
+use crate::records::{self, Record, CALL_CELLS, OUTPUT, SPEC_CELLS, TEXTS};
 use crate::refusal::Refusal;
 use crate::signature::{Signature, Step};
 use crate::value::Value;
@@ -25,7 +23,7 @@ pub fn bind_sheet(input: &[u8]) -> Vec<u8> {
     out
 }
 
-/// The parameter list and the call of two sheets. Whether they are well formed is the library's answer (30); what they say is read here.
+/// The parameter list and the call of two sheets (30).
 ///
 /// ```
 /// use liuwdom::{collect, sheet, Refusal};
@@ -36,197 +34,30 @@ pub fn bind_sheet(input: &[u8]) -> Vec<u8> {
 /// assert_eq!(sheet::read(b"part"), Err(Refusal::BadSheet { line: 1 }));
 /// ```
 pub fn read(input: &[u8]) -> Result<(Signature, Call), Refusal> {
-    if let Some(line) = bad_line(&bind_sheet(input)) {
-        return Err(Refusal::BadSheet { line });
-    }
-    let mut lines = Lines::new(input);
-    let signature = read_signature(&mut lines).ok_or(lines.bad())?;
-    let call = read_call(&mut lines).ok_or(lines.bad())?;
+    let (spec, call) = read_records(input)?;
+    let signature = Signature::from_record(&spec).expect("the library writes a parameter record");
+    let call = Call::from_record(&call).expect("the library writes a call record");
     Ok((signature, call))
 }
 
-// The line of a refusal by 30.
-fn bad_line(told: &[u8]) -> Option<usize> {
-    let line = told.strip_prefix(b"refused,30,")?.strip_suffix(b"\n")?;
-    decimal(line)
-}
-
-// The lines of an input, and how many were taken.
-struct Lines<'a> {
-    left: &'a [u8],
-    taken: usize,
-}
-
-impl<'a> Lines<'a> {
-    fn new(input: &'a [u8]) -> Lines<'a> {
-        Lines {
-            left: input,
-            taken: 0,
-        }
-    }
-
-    fn bad(&self) -> Refusal {
-        Refusal::BadSheet { line: self.taken }
-    }
-
-    fn columns(&mut self) -> Option<Columns> {
-        Columns::of(self.next()?)
-    }
-}
-
-impl<'a> Iterator for Lines<'a> {
-    type Item = &'a [u8];
-
-    fn next(&mut self) -> Option<&'a [u8]> {
-        let end = self.left.iter().position(|&byte| byte == b'\n')?;
-        let line = &self.left[..end];
-        self.left = &self.left[end + 1..];
-        self.taken += 1;
-        Some(line)
-    }
-}
-
-// In which order a sheet has its columns.
-struct Columns {
-    part: usize,
-    name: usize,
-    value: usize,
-}
-
-struct Row<'a> {
-    part: &'a [u8],
-    name: &'a [u8],
-    value: &'a [u8],
-}
-
-impl Columns {
-    fn of(header: &[u8]) -> Option<Columns> {
-        let cells = cells(header)?;
-        let place = |name: &[u8]| cells.iter().position(|cell| *cell == name);
-        Some(Columns {
-            part: place(b"part")?,
-            name: place(b"name")?,
-            value: place(b"value")?,
-        })
-    }
-
-    fn row<'a>(&self, line: &'a [u8]) -> Option<Row<'a>> {
-        let cells = cells(line)?;
-        Some(Row {
-            part: cells[self.part],
-            name: cells[self.name],
-            value: cells[self.value],
-        })
-    }
-}
-
-fn cells(line: &[u8]) -> Option<[&[u8]; 3]> {
-    let cells: Vec<&[u8]> = line.split(|&byte| byte == b',').collect();
-    cells.try_into().ok()
-}
-
-fn read_signature(lines: &mut Lines) -> Option<Signature> {
-    let columns = lines.columns()?;
-    let def = columns.row(lines.next()?)?;
-    let mut signature = Signature::new(def.name);
-    loop {
-        let line = lines.next()?;
-        if line.is_empty() {
-            return Some(signature);
-        }
-        signature = signature.step(read_step(columns.row(line)?)?);
-    }
-}
-
-fn read_step(row: Row) -> Option<Step> {
-    let name = row.name.to_vec();
-    Some(match row.part {
-        b"required" => Step::Required(name),
-        b"optional" => Step::Optional(name),
-        b"defaulted" => Step::Defaulted(name, read_value(row.value)?),
-        b"/" => Step::Slash,
-        b"*" => Step::Star,
-        b"*args" => Step::Args,
-        b"**kwargs" => Step::Kwargs,
-        _ => return None,
-    })
-}
-
-fn read_call(lines: &mut Lines) -> Option<Call> {
-    let columns = lines.columns()?;
-    let mut arguments = Arguments::default();
-    for line in lines.by_ref() {
-        arguments.add(columns.row(line)?)?;
-    }
-    Some(arguments.call())
-}
-
-// A call whose lines are being read: the lines of a list and of a dictionary may stand anywhere behind their first.
-#[derive(Default)]
-struct Arguments {
-    call: Call,
-    items: Vec<Value>,
-    entries: Vec<(Key, Value)>,
-}
-
-impl Arguments {
-    fn add(&mut self, row: Row) -> Option<()> {
-        match row.part {
-            b"pos" => self.call.positionals.push(read_value(row.value)?),
-            b"named" => {
-                let value = read_value(row.value)?;
-                self.call.named.push((row.name.to_vec(), value));
-            }
-            b"star" if row.value == b"list" => self.call.star = Star::Items(Vec::new()),
-            b"star" => self.call.star = Star::NotIterable,
-            b"item" => self.items.push(read_value(row.value)?),
-            b"dstar" if row.value == b"dict" => self.call.double = Double::Entries(Vec::new()),
-            b"dstar" => self.call.double = Double::NotDictionary,
-            b"entry" => {
-                let key = read_key(row.name)?;
-                self.entries.push((key, read_value(row.value)?));
-            }
-            _ => return None,
-        }
-        Some(())
-    }
-
-    fn call(mut self) -> Call {
-        if let Star::Items(items) = &mut self.call.star {
-            *items = self.items;
-        }
-        if let Double::Entries(entries) = &mut self.call.double {
-            *entries = self.entries;
-        }
-        self.call
-    }
-}
-
-fn read_value(cell: &[u8]) -> Option<Value> {
-    let (kind, rest) = cell.split_first()?;
-    Some(match kind {
-        b'n' => Value::Nothing,
-        b'b' => Value::Flag(rest == b"1"),
-        b'i' => Value::Whole(decimal(rest)?),
-        b'r' => Value::Real(f64::from_bits(
-            u64::from_str_radix(str::from_utf8(rest).ok()?, 16).ok()?,
-        )),
-        b's' => Value::text(rest),
-        b'h' => Value::Handle(decimal(rest)?),
-        _ => return None,
-    })
-}
-
-fn read_key(cell: &[u8]) -> Option<Key> {
-    Some(match read_value(cell)? {
-        Value::Text(bytes) => Key::Text(bytes),
-        Value::Whole(number) => Key::Whole(number),
-        other => Key::Other(other),
-    })
-}
-
-fn decimal<T: str::FromStr>(digits: &[u8]) -> Option<T> {
-    str::from_utf8(digits).ok()?.parse().ok()
+/// The records of two sheets, as the library reads them: the parameter list's and the call's (30).
+pub fn read_records(input: &[u8]) -> Result<(Record, Record), Refusal> {
+    let (mut spec_cells, mut spec) = (vec![0; SPEC_CELLS], vec![0; TEXTS]);
+    let (mut call_cells, mut call) = (vec![0; CALL_CELLS], vec![0; TEXTS]);
+    let lengths = records::read_sheets_bytes(
+        input,
+        &mut spec_cells,
+        &mut spec,
+        &mut call_cells,
+        &mut call,
+    )
+    .map_err(|refused| Refusal::of(refused, b"", b""))?;
+    spec_cells.truncate(lengths.spec_cells);
+    spec.truncate(lengths.spec);
+    call_cells.truncate(lengths.call_cells);
+    call.truncate(lengths.call);
+    let record = |cells, area| Record { cells, area };
+    Ok((record(spec_cells, spec), record(call_cells, call)))
 }
 
 /// How a call ends, as [`bind_sheet`] prints it.

@@ -1,8 +1,12 @@
 //! Parameter lists.
 
+use crate::call::pair;
 use crate::records::{self, kind, Record, PRINTED};
 use crate::refusal::Refusal;
-use crate::value::{add_text, Value};
+use crate::value::{add_text, text_at, Areas, Value};
+
+// Cells of a step.
+const STEP: usize = 4;
 
 /// One step of a parameter list.
 #[derive(Clone, Debug, PartialEq, Eq)]
@@ -51,6 +55,28 @@ impl Step {
             }
             Step::Slash | Step::Star | Step::Args | Step::Kwargs => [self.code(), 0, 0, 0],
         }
+    }
+
+    // What four cells say; nothing where the code is none or the text of a name lies outside.
+    fn read(cells: &[u64], area: &[u8]) -> Option<Step> {
+        let name = || text_at(area, cells[1]).map(<[u8]>::to_vec);
+        let default = || {
+            let areas = Areas {
+                spec: area,
+                call: b"",
+            };
+            areas.value(pair(&cells[2..]))
+        };
+        Some(match cells[0] {
+            1 => Step::Required(name()?),
+            2 => Step::Optional(name()?),
+            3 => Step::Defaulted(name()?, default()?),
+            4 => Step::Slash,
+            5 => Step::Star,
+            6 => Step::Args,
+            7 => Step::Kwargs,
+            _ => return None,
+        })
     }
 }
 
@@ -140,6 +166,24 @@ impl Signature {
             cells.extend(step.cells(&mut area));
         }
         Record { cells, area }
+    }
+
+    /// What cells and an area say; nothing where they are no parameter record (1, 2), or a text or a default is none (3, 4).
+    ///
+    /// ```
+    /// # use liuwdom::Signature;
+    /// let water = Signature::new("water").required("block").slash().defaulted("minutes", 30);
+    /// assert_eq!(Signature::from_record(&water.record()), Some(water));
+    /// ```
+    pub fn from_record(record: &Record) -> Option<Signature> {
+        let (name, steps) = record.cells.split_first()?;
+        let steps = steps.chunks(STEP);
+        Some(Signature {
+            name: text_at(&record.area, *name)?.to_vec(),
+            steps: steps
+                .map(|cells| (cells.len() == STEP).then(|| Step::read(cells, &record.area))?)
+                .collect::<Option<_>>()?,
+        })
     }
 
     /// The index of the parameter that can be named so (1 to 8).

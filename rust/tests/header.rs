@@ -25,7 +25,7 @@ fn both_declare_the_same_functions() {
     let mut in_header = names(HEADER, "\nuint64_t liuwdom_", '(');
     in_header.extend(names(HEADER, "\nbool liuwdom_", '('));
     in_header.sort_unstable();
-    assert_eq!(in_header.len(), 16);
+    assert_eq!(in_header.len(), 17);
     assert_eq!(in_header, names(RAW, "pub fn liuwdom_", '('));
 }
 
@@ -46,6 +46,9 @@ fn both_have_the_same_constants() {
         records::PRINTED,
         records::OUTPUT,
     ];
+    assert_eq!(lengths, ours.map(|length| length as u64));
+    let lengths = ["SPEC_CELLS", "CALL_CELLS", "TEXTS"].map(defined);
+    let ours = [records::SPEC_CELLS, records::CALL_CELLS, records::TEXTS];
     assert_eq!(lengths, ours.map(|length| length as u64));
     assert_eq!(defined("NOT_PREPARED"), records::NOT_PREPARED);
     assert_eq!(defined("NO_ROOM"), records::NO_ROOM);

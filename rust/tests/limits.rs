@@ -1,7 +1,8 @@
 //! Limits: 64 and 65 parameters, 66 and 67 steps, names of 64 and 65 bytes, boards of 895 and 896 cells; long texts; what a refusal leaves.
 
-use liuwdom::records::{self, Record, BOARD, OUTPUT, PRINTED};
-use liuwdom::{collect, Bound, Call, Refusal, Signature};
+use liuwdom::records::{self, Lengths, RawRefusal, Record};
+use liuwdom::records::{BOARD, CALL_CELLS, OUTPUT, PRINTED, SPEC_CELLS, TEXTS};
+use liuwdom::{collect, sheet, Bound, Call, Refusal, Signature};
 
 fn numbered(list: Signature, names: std::ops::Range<usize>) -> Signature {
     names.fold(list, |list, index| list.optional(format!("p{index}")))
@@ -153,4 +154,107 @@ fn cells_may_hold_anything() {
     assert_eq!(number(&[1], &[0, 0, 3, 0, 0, 0]), Err(10));
     assert_eq!(number(&[1], &[1, 0, 0, 0, 0, 0, 5, 1]), Err(11));
     assert_eq!(number(&[1], &none), Ok(0));
+}
+
+const SHEETS: &[u8] = b"part,name,value\ndef,f,\nrequired,a,\n\npart,name,value\npos,,sB3\n";
+
+// Four outputs of these lengths with no zero in them, and what reading sheets leaves there.
+struct Outputs {
+    spec_cells: Vec<u64>,
+    spec: Vec<u8>,
+    call_cells: Vec<u64>,
+    call: Vec<u8>,
+}
+
+impl Outputs {
+    fn new([spec_cells, spec, call_cells, call]: [usize; 4]) -> Outputs {
+        Outputs {
+            spec_cells: vec![7; spec_cells],
+            spec: vec![7; spec],
+            call_cells: vec![7; call_cells],
+            call: vec![7; call],
+        }
+    }
+
+    fn read(&mut self, input: &[u8]) -> Result<Lengths, RawRefusal> {
+        records::read_sheets_bytes(
+            input,
+            &mut self.spec_cells,
+            &mut self.spec,
+            &mut self.call_cells,
+            &mut self.call,
+        )
+    }
+
+    fn are_left(&self) -> bool {
+        self.spec_cells
+            .iter()
+            .chain(&self.call_cells)
+            .all(|&cell| cell == 7)
+            && self.spec.iter().chain(&self.call).all(|&byte| byte == 7)
+    }
+}
+
+const ROOM: [usize; 4] = [SPEC_CELLS, TEXTS, CALL_CELLS, TEXTS];
+
+#[test]
+fn records_are_written_from_the_first_cell_and_byte_on() {
+    let mut outputs = Outputs::new(ROOM);
+    let lengths = outputs.read(SHEETS).unwrap();
+    assert_eq!((lengths.spec_cells, lengths.spec), (5, 2));
+    assert_eq!((lengths.call_cells, lengths.call), (8, 2));
+    assert_eq!(outputs.spec_cells[..6], [1, 1, 256 + 1, 0, 0, 7]);
+    assert_eq!(outputs.spec[..3], *b"fa\x07");
+    assert_eq!(outputs.call_cells[..9], [1, 0, 0, 0, 0, 0, 6, 2, 7]);
+    assert_eq!(outputs.call[..3], *b"B3\x07");
+}
+
+#[test]
+fn outputs_of_records_that_are_too_short_are_left() {
+    for short in 0..ROOM.len() {
+        let mut lengths = ROOM;
+        lengths[short] -= 1;
+        let mut outputs = Outputs::new(lengths);
+        // Asked before the sheets are looked at.
+        for input in [SHEETS, b""] {
+            assert_eq!(outputs.read(input).unwrap_err().number, records::NO_ROOM);
+            assert!(outputs.are_left());
+        }
+    }
+}
+
+#[test]
+fn a_bad_sheet_leaves_the_outputs_of_records() {
+    let mut outputs = Outputs::new(ROOM);
+    let last = [SHEETS, b"pos,,400\n"].concat();
+    let refused = outputs.read(&last).unwrap_err();
+    assert_eq!((refused.number, refused.values[0]), (30, 7));
+    assert!(outputs.are_left());
+    assert_eq!(sheet::read(&last), Err(Refusal::BadSheet { line: 7 }));
+}
+
+// Cells that are no record are none, and no cells make reading them panic.
+#[test]
+fn cells_are_read_as_records_or_as_nothing() {
+    let (spec, call) = sheet::read_records(SHEETS).unwrap();
+    assert_eq!(
+        Signature::from_record(&spec),
+        Some(Signature::new("f").required("a"))
+    );
+    assert_eq!(Call::from_record(&call), Some(Call::new().positional("B3")));
+    let cells = spec.cells[..4].to_vec();
+    let area = spec.area.clone();
+    assert_eq!(Signature::from_record(&Record { cells, area }), None);
+    for record in [&spec, &call] {
+        for place in 0..record.cells.len() {
+            for cell in [0, 2, 5, 64, 65_536, u64::MAX / 2, u64::MAX] {
+                let mut other = record.clone();
+                other.cells[place] = cell;
+                let _ = (Signature::from_record(&other), Call::from_record(&other));
+            }
+            let cells = record.cells[..place].to_vec();
+            let area = record.area.clone();
+            assert_eq!(Call::from_record(&Record { cells, area }), None);
+        }
+    }
 }

@@ -11,7 +11,10 @@ use Rattle.rules.specs.Collection.{Outcome, boardLeft}
 use Rattle.rules.specs.Accessors.{Access, leftBy}
 use Rattle.rules.specs.Reader.{Read}
 use Rattle.rules.specs.Lookup.{find}
+use Rattle.rules.specs.ParameterRecord.{encodeParameters}
 use Rattle.rules.specs.ParameterQuestions.{listOf}
+use Rattle.rules.specs.CallRecord.{encodeCall}
+use Rattle.rules.specs.SheetRecords.{sheetsIn}
 use Rattle.cells.specs.Answer.{answerOf}
 use Rattle.cells.specs.declared.answer.Answer.the-variants.{Fine, Refused}
 use Rattle.builder.specs.declared.spec.Finished.{Finished}
@@ -26,7 +29,10 @@ use Rattle.prepared.specs.declared.PreparedBound.{PreparedBound}
 use Rattle.lookup.specs.Lookup.{findingOf, findAmong}
 use Rattle.lookup.specs.declared.Finding.{Finding}
 use Rattle.lookup.proofs.LawsBuilt.{lookup-built}
-use Rattle.liuwdom.specs.Answer.{Says, outcomeAnswer, accessAnswer, findingAnswer, lookedUp, lookupAnswer, readAnswer}
+use Rattle.sheets.specs.Read as sheets
+use Rattle.sheets.specs.Read.{reading, readingOf, SheetsReading}
+use Rattle.sheets.specs.declared.SheetsRead.{SheetsRead}
+use Rattle.liuwdom.specs.Answer.{Says, outcomeAnswer, accessAnswer, findingAnswer, lookedUp, lookupAnswer, readAnswer, readingAnswer}
 
 -- an arm of a `match` on an answer: the cells are those of the variant, and the variant is the answer
 pub arm : {A : Type 0} (cells : A → List ℕ) {x y : A} {told : List ℕ} → x ≡ y → told ≡ cells y → told ≡ cells x
@@ -62,6 +68,18 @@ pub bound-says
     → EndsBound outcome before left a → ((board : List ℕ) → told ≡ outcomeAnswer (toldBy a board)) → Says told after r
     → Says (outcomeAnswer outcome) after r × (left ≡ boardLeft outcome before)
 bound-says {outcome} {before} {left} did t s = (says outcomeAnswer (did .answer) (t left) s, did .board)
+
+-- sheets that are read into four outputs
+pub reading-says
+    : {input specCells spec callCells call specCells' spec' callCells' call' : List ℕ} {a : SheetsRead} {told after : List ℕ} {r : ℕ}
+    → SheetsReading input specCells spec callCells call specCells' spec' callCells' call' a → told ≡ readingAnswer (readingOf a) → Says told after r
+    → Says (readingAnswer (reading input specCells spec callCells call)) after r
+    × ((specCells' ≡ sheets.leftBy (reading input specCells spec callCells call) (encodeParameters (sheetsIn input .parameters)) specCells)
+    × ((spec' ≡ sheets.leftBy (reading input specCells spec callCells call) (sheetsIn input .specArea) spec)
+    × ((callCells' ≡ sheets.leftBy (reading input specCells spec callCells call) (encodeCall (sheetsIn input .call)) callCells)
+    × (call' ≡ sheets.leftBy (reading input specCells spec callCells call) (sheetsIn input .callArea) call))))
+reading-says did t s =
+    (says readingAnswer (did .answer) t s, (rw (did .answer) at (did .parameters), (rw (did .answer) at (did .spec-area), (rw (did .answer) at (did .arguments), rw (did .answer) at (did .call-area)))))
 
 -- a read and the position after it, both told
 pub read-says

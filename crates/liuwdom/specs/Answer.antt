@@ -2,14 +2,12 @@
 -- (area, start, length); and four values, which are counts or what the function is asked for. The layout and the numbers 100 and 101 are the
 -- library's own; the numbers below them are 01's.
 use mathlib.Core.Path.{_≡_}
-use mathlib.Core.Bool.{Bool, cond}
+use mathlib.Core.Bool.{cond}
 use mathlib.Core.List.{List, [], _∷_}
 use Prim.Native.Nat.{ℕ}
 use lib.Dec.{leb}
 use lib.ListN.{getD, length}
-use Rattle.rules.specs.Value.{Value}
-use Rattle.rules.specs.Answer.{Answer, fine, refuse, Area, specArea, callArea, Part, Detail, none, name, count, countAndName, bounds}
-use Rattle.rules.specs.Placement.{Counts}
+use Rattle.rules.specs.Answer.{Answer, fine, refuse, Area, specArea, callArea, Detail, none, name, count, countAndName, bounds}
 use Rattle.rules.specs.Collection.{Outcome, refused, accepted}
 use Rattle.rules.specs.CanFill.{Filling, refusedFilling, answered}
 use Rattle.rules.specs.Lookup.{Finding, at, unknown, find}
@@ -17,6 +15,7 @@ use Rattle.rules.specs.Accessors.{Access, denied, gives}
 use Rattle.rules.specs.ParameterQuestions.{askParameters, listOf}
 use Rattle.rules.specs.Reader.{Read, unread, holds, vacant}
 use Rattle.rules.specs.SheetOutput.{Bound, noRoom, wrote}
+use Rattle.sheets.specs.Read.{Reading, noRoom as noSpace, badLine, held}
 use Rattle.prepared.specs.Prepared.{preparedLength, preparedFrom}
 use Rattle.prepared.specs.Bind.{preparationOf, cellsAfter}
 use Rattle.prepared.specs.declared.Preparation.{Preparation}
@@ -91,6 +90,12 @@ readAnswer vacant after = valueAnswer 0 0 after 0
 abbrev pub boundAnswer : Bound → List ℕ
 boundAnswer noRoom = refusalAnswer 101 none
 boundAnswer (wrote n) = valueAnswer n 0 0 0
+
+-- reading sheets: the lengths of the parameter record, of its area, of the call record and of its area; the line of a bad one; or 101
+abbrev pub readingAnswer : Reading → List ℕ
+readingAnswer noSpace = refusalAnswer 101 none
+readingAnswer (badLine n k) = refusalAnswer n (count k)
+readingAnswer (held a b c d) = valueAnswer a b c d
 
 -- an exported function answers these cells, and their first as its result
 pub record Says (cells after : List ℕ) (r : ℕ) : Type 0 where

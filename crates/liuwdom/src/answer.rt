@@ -8,6 +8,7 @@ use prepared::PreparedBound;
 use printer::Printed;
 use reader::Next;
 use sheets::Bound;
+use sheets::SheetsRead;
 ghost use mathlib.Core.Path.{_≡_};
 ghost use mathlib.Core.List.{List, [], _∷_};
 ghost use Prim.Native.Nat.{ℕ};
@@ -20,7 +21,8 @@ ghost use Rattle.lookup.specs.Lookup.{findingOf};
 ghost use Rattle.prepared.specs.Bind.{toldBy};
 ghost use Rattle.reader.specs.Parser.{readOf};
 ghost use Rattle.sheets.specs.Bind.{boundOf};
-ghost use Rattle.liuwdom.specs.Answer.{Says, outcomeAnswer, preparationAnswer, fillingAnswer, accessAnswer, findingAnswer, readAnswer, boundAnswer};
+ghost use Rattle.sheets.specs.Read.{readingOf};
+ghost use Rattle.liuwdom.specs.Answer.{Says, outcomeAnswer, preparationAnswer, fillingAnswer, accessAnswer, findingAnswer, readAnswer, boundAnswer, readingAnswer};
 ghost use Rattle.liuwdom.specs.Told.{toldCells};
 
 // A name in a detail stands in no area, in the spec area or in the call area.
@@ -34,6 +36,9 @@ const CALL: u64 = 2;
 const NOT_PREPARED: u64 = 100;
 
 const NO_ROOM: u64 = 101;
+
+// The number of a sheet that breaks a rule.
+const BAD_SHEET: u64 = 30;
 
 // An answer before it is written: the number, the name's area and payload, and four values.
 pub struct Told {
@@ -209,5 +214,25 @@ pub fn bound(r: Bound) -> Told
     match r {
         Bound::Written(bytes) => plain(0, bytes as u64, 0, 0, 0),
         Bound::NoRoom => plain(NO_ROOM, 0, 0, 0, 0),
+    }
+}
+
+pub fn sheets_read(r: SheetsRead) -> Told
+    ensures { λ t. ⌜ toldCells t ≡ readingAnswer (readingOf r) ⌝ }
+{
+    match r {
+        SheetsRead::Records(records) => {
+            let list = records.spec;
+            let given = records.call;
+            plain(
+                0,
+                list.cells as u64,
+                list.bytes as u64,
+                given.cells as u64,
+                given.bytes as u64,
+            )
+        }
+        SheetsRead::Bad(line) => plain(BAD_SHEET, line as u64, 0, 0, 0),
+        SheetsRead::NoRoom => plain(NO_ROOM, 0, 0, 0, 0),
     }
 }

@@ -16,6 +16,7 @@ use answer::prepared_bound;
 use answer::printed;
 use answer::read;
 use answer::refused;
+use answer::sheets_read;
 use builder::build;
 use cells::answer::Answer;
 use collector::can_fill::can_fill_with_args;
@@ -28,6 +29,7 @@ use reader::read_is_eof;
 use reader::read_next;
 use reader::read_next_opt;
 use sheets::bind;
+use sheets::read_sheets;
 ghost use mathlib.Core.Path.{_≡_};
 ghost use Rattle.rules.specs.Collection.{collection, boardLeft};
 ghost use Rattle.rules.specs.CanFill.{fillable};
@@ -36,8 +38,12 @@ ghost use Rattle.rules.specs.Printed as list;
 ghost use Rattle.rules.specs.ParameterQuestions.{listOf};
 ghost use Rattle.rules.specs.Reader.{readNeeded, readOptional, atEnd, leftAt, positionAfter};
 ghost use Rattle.rules.specs.SheetOutput as sheet;
+ghost use Rattle.rules.specs.ParameterRecord.{encodeParameters};
+ghost use Rattle.rules.specs.CallRecord.{encodeCall};
+ghost use Rattle.rules.specs.SheetRecords.{sheetsIn};
+ghost use Rattle.sheets.specs.Read.{reading, leftBy};
 ghost use Rattle.prepared.specs.Prepared.{boundPrepared};
-ghost use Rattle.liuwdom.specs.Answer.{Says, outcomeAnswer, preparingAnswer, preparingLeft, fillingAnswer, accessAnswer, lookupAnswer, readAnswer, boundAnswer};
+ghost use Rattle.liuwdom.specs.Answer.{Says, outcomeAnswer, preparingAnswer, preparingLeft, fillingAnswer, accessAnswer, lookupAnswer, readAnswer, boundAnswer, readingAnswer};
 
 pub mod answer;
 
@@ -215,6 +221,25 @@ pub extern "C" fn liuwdom_bind(input: &[u8], out: &mut [u8], answer: &mut [u64; 
     ensures output { λ r. ⌜ now (out .exit) ≡ sheet.boundLeft 64 64 (now (input .entry)) (now (out .entry)) ⌝ }
 {
     bound(bind(input, out)).write(answer)
+}
+
+// Two sheets to both records and the areas of their texts.
+#[no_mangle]
+pub extern "C" fn liuwdom_read_sheets(
+    input: &[u8],
+    spec_cells: &mut [u64],
+    spec: &mut [u8],
+    call_cells: &mut [u64],
+    call: &mut [u8],
+    answer: &mut [u64; 8],
+) -> u64
+    ensures answer { λ r. ⌜ Says (readingAnswer (reading (now (input .entry)) (now («spec_cells» .entry)) (now (spec .entry)) (now («call_cells» .entry)) (now (call .entry)))) (now (answer .exit)) r ⌝ }
+    ensures parameters { λ r. ⌜ now («spec_cells» .exit) ≡ leftBy (reading (now (input .entry)) (now («spec_cells» .entry)) (now (spec .entry)) (now («call_cells» .entry)) (now (call .entry))) (encodeParameters (sheetsIn (now (input .entry)) .parameters)) (now («spec_cells» .entry)) ⌝ }
+    ensures spec { λ r. ⌜ now (spec .exit) ≡ leftBy (reading (now (input .entry)) (now («spec_cells» .entry)) (now (spec .entry)) (now («call_cells» .entry)) (now (call .entry))) (sheetsIn (now (input .entry)) .specArea) (now (spec .entry)) ⌝ }
+    ensures arguments { λ r. ⌜ now («call_cells» .exit) ≡ leftBy (reading (now (input .entry)) (now («spec_cells» .entry)) (now (spec .entry)) (now («call_cells» .entry)) (now (call .entry))) (encodeCall (sheetsIn (now (input .entry)) .call)) (now («call_cells» .entry)) ⌝ }
+    ensures call { λ r. ⌜ now (call .exit) ≡ leftBy (reading (now (input .entry)) (now («spec_cells» .entry)) (now (spec .entry)) (now («call_cells» .entry)) (now (call .entry))) (sheetsIn (now (input .entry)) .callArea) (now (call .entry)) ⌝ }
+{
+    sheets_read(read_sheets(input, spec_cells, spec, call_cells, call)).write(answer)
 }
 
 // The slot reader at a position: a needed value.

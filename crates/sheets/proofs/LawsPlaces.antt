@@ -12,7 +12,7 @@ use Rattle.rules.specs.ParameterQuestions.{listOf}
 use Rattle.rules.specs.Board.{boardLeast-64}
 use Rattle.rules.specs.Collection.{callOf, collection}
 use Rattle.rules.specs.SheetLines.{Columns, linesIn}
-use Rattle.rules.specs.SheetRecords.{Sheets, sheetsIn, parameterRecord, callRecord, areaOf, stepTexts, callTexts}
+use Rattle.rules.specs.SheetRecords.{Sheets, sheetsIn}
 use Rattle.rules.specs.SheetInput.{rowsOf, parameterLines, callLines}
 use Rattle.rules.specs.SheetOutput.{sheetsText, outcomeText}
 use Rattle.rules.proofs.LawsListing.{all-take}
@@ -26,11 +26,13 @@ use Rattle.sheet_judge.specs.Judged.{threeIn, HeaderOf, PlacesAre}
 use Rattle.sheet_judge.specs.declared.Places.{Places}
 use Rattle.sheet_records.specs.Rows.{rowsFrom, allRows}
 use Rattle.sheet_records.specs.Call.{CountsOf}
-use Rattle.sheet_records.specs.Written.{ParametersReady, CallReady, ParametersWritten, CallWritten}
+use Rattle.sheet_records.specs.Written.{ParametersReady, CallReady, RecordWritten, ParametersWritten, CallWritten}
 use Rattle.sheet_records.specs.declared.Written.{Written}
 use Rattle.sheet_records.proofs.LawsColumns.{columns-apart}
 use Rattle.sheet_records.proofs.LawsWritten.{written-cells, written-area}
 use Rattle.sheets.specs.Bind.{recordsText}
+use Rattle.sheets.specs.Read.{RecordsWritten}
+use Rattle.sheets.specs.declared.records.Records.{Records}
 
 -- a name stands elsewhere than its value
 columns-differ : (c : code.Columns) → HeaderOf c → columnsOf c .name ≡ columnsOf c .value → ⊥
@@ -99,17 +101,17 @@ module _ (input : List ℕ) (p : Places) (are : PlacesAre input p) where
 
   -- ---- the records
 
-  -- the front of the cells and of the area is the call record and its texts
-  pub call-put : (spec-cells spec cells held area filled : List ℕ) (r : Written)
-      → CallWritten (allRows input (columnsOf (p .call)) (p .«call_rows»)) cells held area filled r
-      → (out after : List ℕ) (n : ℕ)
-      → Put (recordsText spec-cells spec (take (r .cells) held) (take (r .bytes) filled)) 0 out after n
-      → Put (recordsText spec-cells spec (encodeCall (sheetsIn input .call)) (sheetsIn input .callArea)) 0 out after n
+  pub parameters-written : {cells held area filled : List ℕ} {r : Written}
+      → ParametersWritten (rowsFrom input (columnsOf (p .parameters)) (p .«parameter_rows») (p .rows)) cells held area filled r
+      → RecordWritten (encodeParameters (sheetsIn input .parameters)) (sheetsIn input .specArea) cells held area filled r
   unfolding sheetsIn
-  call-put spec-cells spec cells held area filled r w out after n =
-      put-same (recordsText spec-cells spec (take (r .cells) held) (take (r .bytes) filled))
-      (recordsText spec-cells spec (encodeCall (callRecord (rowsOf (callLines input)))) (areaOf callTexts (rowsOf (callLines input))))
-      (ap₂ (recordsText spec-cells spec) (written-cells w ∙ ap (λ rows. encodeCall (callRecord rows)) call-rows) (written-area w ∙ ap (areaOf callTexts) call-rows))
+  parameters-written {cells} {held} {area} {filled} {r} w = subst (λ rows. ParametersWritten rows cells held area filled r) parameters-rows w
+
+  pub call-written : {cells held area filled : List ℕ} {r : Written}
+      → CallWritten (allRows input (columnsOf (p .call)) (p .«call_rows»)) cells held area filled r
+      → RecordWritten (encodeCall (sheetsIn input .call)) (sheetsIn input .callArea) cells held area filled r
+  unfolding sheetsIn
+  call-written {cells} {held} {area} {filled} {r} w = subst (λ rows. CallWritten rows cells held area filled r) call-rows w
 
 -- ---- both
 
@@ -123,16 +125,16 @@ sheets-records s =
     ∙ ap (λ r. outcomeText spec call (parametersOf spec r) (positionalsOf (callIn call (s .call))) (namedOf (callIn call (s .call))) (collection 64 64 (encodeParameters (s .parameters)) spec (encodeCall (s .call)) call (replicate 896 0))) (sym (readParameters-encodeParameters (s .parameters)))
     ∙ ap (λ r. outcomeText spec call (listOf (encodeParameters (s .parameters)) spec) (positionalsOf (callIn call r)) (namedOf (callIn call r)) (collection 64 64 (encodeParameters (s .parameters)) spec (encodeCall (s .call)) call (replicate 896 0))) (sym (readCall-encodeCall (s .call)))
 
--- with the parameter record written, the text is that of the input's sheets
-pub sheets-put : (input : List ℕ) (p : Places) → PlacesAre input p → (cells held area filled : List ℕ) (r : Written)
-    → ParametersWritten (rowsFrom input (columnsOf (p .parameters)) (p .«parameter_rows») (p .rows)) cells held area filled r
-    → (out after : List ℕ) (n : ℕ)
-    → Put (recordsText (take (r .cells) held) (take (r .bytes) filled) (encodeCall (sheetsIn input .call)) (sheetsIn input .callArea)) 0 out after n
+-- with both records written, the text of what the outputs hold is that of the input's sheets
+pub records-put : {input specCells spec callCells call specCells' spec' callCells' call' : List ℕ} {r : Records}
+    → RecordsWritten input specCells spec callCells call specCells' spec' callCells' call' r
+    → {out after : List ℕ} {n : ℕ}
+    → Put (recordsText (take (r .spec .cells) specCells') (take (r .spec .bytes) spec') (take (r .call .cells) callCells') (take (r .call .bytes) call')) 0 out after n
     → Put (sheetsText 64 64 (sheetsIn input)) 0 out after n
-unfolding sheetsIn
-sheets-put input p are cells held area filled r w out after n =
-    let call : List ℕ = encodeCall (sheetsIn input .call) in
-    let texts : List ℕ = sheetsIn input .callArea in
-    put-same (recordsText (take (r .cells) held) (take (r .bytes) filled) call texts) (sheetsText 64 64 (sheetsIn input))
-    (ap₂ (λ cs bs. recordsText cs bs call texts) (written-cells w ∙ ap (λ rows. encodeParameters (parameterRecord rows)) (parameters-rows input p are)) (written-area w ∙ ap (areaOf stepTexts) (parameters-rows input p are))
+records-put {input} {specCells} {spec} {callCells} {call} {specCells'} {spec'} {callCells'} {call'} {r} w =
+    let callCells₁ : List ℕ = take (r .call .cells) callCells' in
+    let call₁ : List ℕ = take (r .call .bytes) call' in
+    put-same (recordsText (take (r .spec .cells) specCells') (take (r .spec .bytes) spec') callCells₁ call₁) (sheetsText 64 64 (sheetsIn input))
+    (ap₂ (λ cs bs. recordsText cs bs callCells₁ call₁) (written-cells (w .parameters)) (written-area (w .parameters))
+    ∙ ap₂ (recordsText (encodeParameters (sheetsIn input .parameters)) (sheetsIn input .specArea)) (written-cells (w .arguments)) (written-area (w .arguments))
     ∙ sym (sheets-records (sheetsIn input)))

@@ -2,3 +2,4 @@
 pub mod LawsRecords
 pub mod LawsPlaces
 pub mod LawsBind
+pub mod LawsRead

@@ -1,2 +1,3 @@
--- What binding two sheets promises.
+-- What binding two sheets and reading them promises.
 pub mod Bind
+pub mod Read

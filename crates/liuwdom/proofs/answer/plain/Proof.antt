@@ -2,7 +2,6 @@
 -- Assumes nothing.
 use mathlib.Core.Path.{refl}
 use Rattle.rules.specs.Text.{startOf, sizeOf}
-use borrow.Author.Needs.{needs}
 use Rattle.liuwdom.proofs.answer.plain.Statement.{statement}
 use Rattle.liuwdom.proofs.answer.plain.Tie as tie
 
