@@ -37,10 +37,6 @@ pub source-some : (cells : List ℕ) (n : ℕ) → 0 < n → sourceValue cells n
 source-some cells zero h = absurd (not-suc-le-zero h)
 source-some cells (suc n) h = refl
 
-pub source-none : (cells : List ℕ) (n : ℕ) → sourceValue cells n ≡ none → n ≡ 0
-source-none cells zero e = refl
-source-none cells (suc n) e = let z : _≡_ {A = ℕ} 0 1 = cc in absurd (omega arith)
-
 source-is : (cells : List ℕ) (n : ℕ) → not (eqb n 0) ≡ isSome (sourceValue cells n)
 source-is cells zero = refl
 source-is cells (suc n) = ap not (eqb·suc-zero n)

@@ -23,12 +23,11 @@ use Rattle.cells.proofs.LawsListed.{length-listed, all-at, getD-listed}
 use Rattle.rules.proofs.LawsParameters.{list-nameInside}
 use Rattle.builder.specs.declared.params.Parameters.{Parameters}
 use Rattle.cells.specs.declared.answer.Answer.the-variants.{Fine}
-use Rattle.builder.specs.declared.spec.ParametersSpec.{ParametersSpec}
 use Rattle.builder.specs.declared.spec.Finished.{Finished}
 use Rattle.cells.specs.Listed.{listed}
 use Rattle.builder.specs.Params.{mayBeNamed, parameterOf, parameterAt, parametersIn}
 use Rattle.cells.specs.Answer.{answerOf}
-use Rattle.builder.specs.Build.{Building, IsList}
+use Rattle.builder.specs.Build.{Building}
 use Rattle.builder.proofs.LawsParams.{nameable-at, names-at}
 use Rattle.lookup.specs.declared.Finding.{Finding}
 use Rattle.lookup.specs.declared.Finding.the-variants.{At, Unknown}

@@ -1,30 +1,30 @@
 -- Demand 3, proved over the definitions: `demand-3`, for every A and B, and `demand-3-64`, its instance at 64 and 64.
 -- Assumes nothing.
-use mathlib.Core.Path.{_≡_, refl, sym, ap, ap₂, _∙_}
-use mathlib.Core.Bool.{Bool, true, false, cond, not, _&&_, _||_, false≢true, true≢false}
-use mathlib.Core.List.{List, [], _∷_, _++_, map}
-use Prim.Native.Nat.{ℕ, suc, _+_, _≤_}
+use mathlib.Core.Path.{_≡_, refl, sym, ap, _∙_}
+use mathlib.Core.Bool.{Bool, true, false, cond, not, _&&_}
+use mathlib.Core.List.{List, [], _∷_, map}
+use Prim.Native.Nat.{ℕ, suc, _≤_}
 use native.Mathlib.Nat.{suc-inj}
 use native.Mathlib.Omega.{arith}
 use borrow.Author.Tests.{le-leb, leb-true, ne-eqb}
 use lib.Dec.{leb, eqb}
 use lib.ListN.{length, length-map}
-use Rattle.rules.specs.Listing.{any, anyFrom, mapFrom}
+use Rattle.rules.specs.Listing.{any, mapFrom}
 use Rattle.rules.specs.Value.{Value}
 use Rattle.rules.specs.Answer.{Answer, fine, refuse, _then_, ask, Detail, none, name, partOf, specArea}
-use Rattle.rules.specs.CallRecord.{Pair, CallRecord, Named, Call, encodeCall, readCall, namedIn, callIn, positionalsOf, namedOf}
+use Rattle.rules.specs.CallRecord.{Pair, Named, Call, encodeCall, readCall, namedIn, callIn, positionalsOf, namedOf}
 use Rattle.rules.specs.Parameters.{Style, posOnly, posOrNamed, namedOnly, noMore, Parameter, isRequired, hasArgs, hasKwargs}
 use Rattle.rules.specs.ParameterQuestions.{askParameters, listOf}
-use Rattle.rules.specs.Placement.{Slot, isUnfilled, Counts, fromP, place, countsOf, starRemainder, namedRemainder}
+use Rattle.rules.specs.Placement.{Slot, isUnfilled, Counts, place, countsOf, starRemainder, namedRemainder}
 use Rattle.rules.specs.Board.{boardLeast, boardAfter}
-use Rattle.rules.specs.CallQuestions.{askForm, askCall, askBoard}
-use Rattle.rules.specs.Binding.{namedBy, namesFilled, missing, askRequired, askStarRemainder, askNamedRemainder, askPlaced, askBinding, textsOf}
+use Rattle.rules.specs.CallQuestions.{askForm, askBoard}
+use Rattle.rules.specs.Binding.{namesFilled, missing, askRequired, askStarRemainder, askNamedRemainder, askPlaced, askBinding}
 use Rattle.rules.specs.Collection.{Outcome, refused, accepted, outcomeOf, callOf, askRecords, collection}
-use Rattle.rules.specs.CanFill.{Filling, answered, fillingOf, canFill, fillable}
+use Rattle.rules.specs.CanFill.{answered, canFill, fillable}
 use Rattle.rules.specs.Demand3.{Cut, cutRecord, wholeRecord, merge, isAccepted, requiredFilled, Domain, Placed, Demand3}
-use Rattle.rules.proofs.LawsListing.{and-left, and-right, and-both, map-map}
+use Rattle.rules.proofs.LawsListing.{map-map}
 use Rattle.rules.proofs.LawsRecord.{readCall-encodeCall}
-use Rattle.rules.proofs.LawsAnswer.{isFine, isFine-fine, then-left, then-fine, ask-fine, fine-refuse}
+use Rattle.rules.proofs.LawsAnswer.{isFine, then-left, fine-refuse}
 use Rattle.rules.proofs.LawsParameters.{list-positionalFirst, list-namesApart}
 use Rattle.rules.proofs.LawsPlacement.{none-lost}
 use Rattle.rules.proofs.LawsBinding.{repeats, repeats-slots, Ended, onwards, by16, by19}

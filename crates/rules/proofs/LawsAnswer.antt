@@ -1,7 +1,7 @@
 -- Laws of chains of questions: a chain is fine exactly where each question is, and what a fine question says of its test.
 -- Assumes nothing.
-use mathlib.Core.Path.{_≡_, refl, sym, ap, _∙_}
-use mathlib.Core.Bool.{Bool, true, false, cond, _&&_}
+use mathlib.Core.Path.{_≡_, refl, sym, ap}
+use mathlib.Core.Bool.{Bool, true, false, _&&_}
 use Prim.Native.Nat.{ℕ}
 use native.Mathlib.Omega.{arith}
 use Rattle.rules.specs.Answer.{Answer, fine, refuse, _then_, ask, Detail}
@@ -13,14 +13,6 @@ isFine (refuse n d) = false
 pub isFine-then : (a b : Answer) → isFine (a then b) ≡ (isFine a && isFine b)
 isFine-then fine b = refl
 isFine-then (refuse n d) b = refl
-
-pub isFine-fine : (a : Answer) → isFine a ≡ true → a ≡ fine
-isFine-fine fine e = refl
-isFine-fine (refuse n d) e = let z : _≡_ {A = ℕ} 0 1 = cc in absurd (omega arith)
-
-pub isFine-ask : (n : ℕ) (b : Bool) → isFine (ask n b) ≡ b
-isFine-ask n true = refl
-isFine-ask n false = refl
 
 pub fine-refuse : {X : Type 0} {n : ℕ} {d : Detail} → fine ≡ refuse n d → X
 fine-refuse e = let z : _≡_ {A = ℕ} 0 1 = cc in absurd (omega arith)
@@ -39,6 +31,3 @@ then-fine a b e = ap (λ x. x then b) e
 pub ask-true : (n : ℕ) (b : Bool) → ask n b ≡ fine → b ≡ true
 ask-true n true e = refl
 ask-true n false e = fine-refuse (sym e)
-
-pub ask-fine : (n : ℕ) (b : Bool) → b ≡ true → ask n b ≡ fine
-ask-fine n b e = ap (ask n) e

@@ -1,22 +1,21 @@
 -- Laws of questions 15 to 24 over the cuts of P and N: the written names' repeats (16) and the entries' (19) are together the repeats of N,
 -- and where there is none what is left, 20 to 24, reads P and N alone.
 -- Assumes nothing.
-use mathlib.Core.Path.{_≡_, refl, sym, ap, ap₂, _∙_}
-use mathlib.Core.Bool.{Bool, true, false, cond, not, _&&_, _||_, false≢true, true≢false}
+use mathlib.Core.Path.{_≡_, refl, ap, ap₂, _∙_}
+use mathlib.Core.Bool.{Bool, true, false, cond, _&&_, _||_, false≢true, true≢false}
 use mathlib.Core.List.{List, [], _∷_, _++_, map}
-use Prim.Native.Nat.{ℕ, zero, suc}
-use lib.ListN.{length}
+use Prim.Native.Nat.{ℕ, suc}
 use lib.Seq.{append-snoc}
 use Rattle.rules.specs.Listing.{all, any, anyFrom}
-use Rattle.rules.specs.Text.{Text, among, differ}
+use Rattle.rules.specs.Text.{among, differ}
 use Rattle.rules.specs.Value.{Value}
 use Rattle.rules.specs.Answer.{Answer, fine, refuse, _then_, ask, Detail, name, partOf, specArea, callArea}
-use Rattle.rules.specs.CallRecord.{Call, Named, Entry, Key, word, words, entriesOf, positionalsOf, namedOf}
+use Rattle.rules.specs.CallRecord.{Call, Named, Entry, word, words, entriesOf, positionalsOf, namedOf}
 use Rattle.rules.specs.Parameters.{Parameter}
 use Rattle.rules.specs.Lookup.{names}
 use Rattle.rules.specs.Placement.{fromP}
 use Rattle.rules.specs.Binding.{textsOf, namedBy, askRepeats, namesFilled, askEntry, askEntries, askPlaced, askBinding, starPasses, doublePasses}
-use Rattle.rules.proofs.LawsListing.{or-left, or-right, or-neither, anyFrom-same, anyFrom-none, anyFrom-or, any-append, map-append}
+use Rattle.rules.proofs.LawsListing.{or-left, or-right, anyFrom-same, anyFrom-none, anyFrom-or, any-append, map-append}
 use Rattle.rules.proofs.LawsText.{differ-middle}
 
 -- ---- the repeats

@@ -1,25 +1,23 @@
 -- Laws of can-fill: of named values with no name twice it says yes exactly where there are no repeats and 20 to 24 are fine.
 -- Assumes nothing.
 use mathlib.Core.Path.{_≡_, refl, sym, ap, ap₂, _∙_}
-use mathlib.Core.Bool.{Bool, true, false, cond, not, _&&_, _||_, false≢true, true≢false}
+use mathlib.Core.Bool.{Bool, true, false, cond, not, _&&_, _||_}
 use mathlib.Core.List.{List, [], _∷_, map}
 use mathlib.Core.Option.{Option, none, some}
-use Prim.Native.Nat.{ℕ, zero, suc, _+_, _≤_}
-use native.Mathlib.Omega.{arith}
-use borrow.Author.Tests.{leb-true, le-leb, eqb-true, eq-eqb}
+use Prim.Native.Nat.{ℕ, zero, suc, _+_}
 use lib.Dec.{leb, ltb, eqb, leb·zero, leb·suc-zero, leb·suc-suc}
-use lib.ListN.{length, drop, getD, length-drop}
+use lib.ListN.{length, drop, getD}
 use Rattle.rules.specs.Listing.{all, any, tally, keep, anyFrom, mapFrom}
 use Rattle.rules.specs.Text.{differ}
 use Rattle.rules.specs.Value.{Value, noValue}
-use Rattle.rules.specs.Answer.{Answer, fine, refuse, _then_, name, partOf, specArea}
+use Rattle.rules.specs.Answer.{fine, refuse, _then_, name, partOf, specArea}
 use Rattle.rules.specs.CallRecord.{Named}
 use Rattle.rules.specs.Parameters.{Parameter, ParameterKind, required, optional, defaulted, args, kwargs, isRequired, positional, positionalCount, hasArgs, hasKwargs}
 use Rattle.rules.specs.Lookup.{names, known}
 use Rattle.rules.specs.Placement.{Slot, taken, isUnfilled, otherwise, takenOr, partner, fromP, slotOf, place, starRemainder, namedRemainder}
-use Rattle.rules.specs.Binding.{textsOf, namedBy, namesFilled, missing, askRequired, askStarRemainder, askNamedRemainder, askPlaced}
+use Rattle.rules.specs.Binding.{textsOf, namedBy, missing, askRequired, askStarRemainder, askNamedRemainder, askPlaced}
 use Rattle.rules.specs.CanFill.{fillings, filledTwice, leftEmpty, canFill}
-use Rattle.rules.proofs.LawsListing.{and-left, and-right, and-both, same-test, anyFrom-same, all-map, tally-map}
+use Rattle.rules.proofs.LawsListing.{anyFrom-same, all-map, tally-map}
 use Rattle.rules.proofs.LawsAnswer.{isFine, isFine-then}
 use Rattle.rules.proofs.LawsPlacement.{isSome, partner-some, naming, tally-naming}
 use Rattle.rules.proofs.LawsBinding.{repeats, repeats-slots}

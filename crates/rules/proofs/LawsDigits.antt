@@ -13,7 +13,7 @@ use lib.ListN.{length, length-append}
 use borrow.Author.Tests.{ltb-true, ltb-false, le-leb, lt-leb, lt-ltb, eqb-true, ne-eqb}
 use Rattle.rules.specs.Listing.{all}
 use Rattle.rules.specs.SheetValue.{glyph, isDigit, isHexDigit, worth, numberFrom, lastDigits, isShortest, withoutZeros, decimal}
-use Rattle.rules.proofs.LawsListing.{and-left, and-right, and-both, all-append, all-imp}
+use Rattle.rules.proofs.LawsListing.{and-left, and-right, and-both, all-append}
 
 -- ---- one digit
 
@@ -39,13 +39,6 @@ module _ (d : ℕ) (h : d < 16) where
       go false e =
           let s : 10 ≤ d = ltb-false d 10 e in
           rw (le-leb 48 (87 + d) (omega arith), lt-leb (87 + d) 57 (omega arith), le-leb 97 (87 + d) (omega arith), le-leb (87 + d) 102 (omega arith))
-
-pub glyph-least : (d : ℕ) → 48 ≤ glyph d
-glyph-least d = go (ltb d 10)
-  where
-    go : (b : Bool) → 48 ≤ cond b (48 + d) (87 + d)
-    go true = omega arith
-    go false = omega arith
 
 pub glyph-ten : (d : ℕ) → d < 10 → glyph d ≡ 48 + d
 glyph-ten d h = rw (lt-ltb d 10 h)
@@ -118,11 +111,6 @@ zeros-length : (bs : List ℕ) → length (withoutZeros bs) ≤ length bs
 zeros-length =
     zeros-ind (λ bs left. length left ≤ length bs) (omega arith) (λ b. omega arith) (λ c bs left p. omega arith) (λ b c bs e. omega arith)
 
-zeros-all : (test : ℕ → Bool) (bs : List ℕ) → all test bs ≡ true → all test (withoutZeros bs) ≡ true
-zeros-all test =
-    zeros-ind (λ bs left. all test bs ≡ true → all test left ≡ true) (λ h. h) (λ b h. h)
-    (λ c bs left p h. p (and-right (test 48) (all test (c ∷ bs)) h)) (λ b c bs e h. h)
-
 zeros-shortest : (bs : List ℕ) → 0 < length bs → all isDigit bs ≡ true → isShortest (withoutZeros bs) ≡ true
 zeros-shortest =
     zeros-ind (λ bs left. 0 < length bs → all isDigit bs ≡ true → isShortest left ≡ true) (λ p h. absurd (omega arith))
@@ -135,11 +123,7 @@ zeros-shortest =
 decimal-digits : (n : ℕ) → all isDigit (lastDigits 10 20 n) ≡ true
 decimal-digits n = digits-all 10 isDigit (λ m. glyph-digit (m % 10) (omega arith)) 20 n
 
--- the shortest decimal of a number: its digits, how many they are, that it is one, and its number
-pub decimal-all : (test : ℕ → Bool) → ((b : ℕ) → isDigit b ≡ true → test b ≡ true) → (n : ℕ) → all test (decimal n) ≡ true
-unfolding decimal
-decimal-all test each n = zeros-all test (lastDigits 10 20 n) (all-imp isDigit test each (lastDigits 10 20 n) (decimal-digits n))
-
+-- the shortest decimal of a number: how many digits it has, that it is one, and its number
 pub decimal-length : (n : ℕ) → length (decimal n) ≤ 20
 unfolding decimal
 decimal-length n = omega (arith, zeros-length (lastDigits 10 20 n), digits-length 10 20 n)

@@ -1,13 +1,13 @@
 -- Laws of tests and counts over lists: what a conjunction of tests gives; `all`, `any`, `tally` and `keep` of a front, a rest, two lists
 -- joined and a mapped list; tests that agree at every element.
 -- Assumes nothing.
-use mathlib.Core.Path.{_≡_, refl, sym, ap, ap₂, _∙_}
+use mathlib.Core.Path.{_≡_, refl, sym, ap, ap₂}
 use mathlib.Core.Bool.{Bool, true, false, cond, not, _&&_, _||_, false≢true, true≢false}
 use mathlib.Core.List.{List, [], _∷_, _++_, map}
 use Prim.Native.Nat.{ℕ, zero, suc, _+_}
 use native.Mathlib.Omega.{arith}
 use lib.ListN.{length, take, drop}
-use Rattle.rules.specs.Listing.{all, any, tally, keep, allFrom, anyFrom, mapFrom}
+use Rattle.rules.specs.Listing.{all, any, tally, keep, anyFrom}
 
 -- ---- one test
 

@@ -1,31 +1,23 @@
 -- Laws of a list that passes 1 to 8: its positional parameters come first, no name is that of two nameable parameters, and the names of
 -- nameable parameters lie inside the area.
 -- Assumes nothing.
-use mathlib.Core.Path.{_≡_, refl, sym, ap, _∙_}
+use mathlib.Core.Path.{_≡_, refl, sym, ap}
 use mathlib.Core.Bool.{Bool, true, false, cond, not, _&&_, _||_, false≢true, true≢false}
 use mathlib.Core.List.{List, [], _∷_, _++_, append-nil}
 use Prim.Native.Nat.{ℕ}
 use lib.Dec.{leb}
-use Rattle.rules.specs.Listing.{all, any}
+use Rattle.rules.specs.Listing.{all}
 use Rattle.rules.specs.Text.{Text, bytesAt, textIn, sizeOf, inside, isText}
 use Rattle.rules.specs.Answer.{Answer, fine, _then_, ask}
-use Rattle.rules.specs.ParameterRecord.{Step, ParameterRecord, readParameters}
-use Rattle.rules.specs.Parameters.{Style, posOnly, posOrNamed, namedOnly, noMore, ParameterKind, required, optional, defaulted, args, kwargs, Act, adds, slash, bareStar, unknownCode, act, comesBefore, mayStand, nextStyle, Parameter, plain, takesPosition, takesName, positional, nameable, added, addedFrom, parametersOf}
+use Rattle.rules.specs.ParameterRecord.{Step, readParameters}
+use Rattle.rules.specs.Parameters.{Style, posOnly, posOrNamed, namedOnly, noMore, required, optional, defaulted, args, kwargs, Act, adds, slash, bareStar, unknownCode, act, comesBefore, mayStand, nextStyle, Parameter, plain, takesPosition, takesName, positional, nameable, added, addedFrom, parametersOf}
 use Rattle.rules.specs.Lookup.{known}
 use Rattle.rules.specs.ParameterQuestions.{hasName, stepName, hasRoom, nameIsNew, askStep, askSteps, askParameters, listOf, wholeSteps, codesKnown, namesInside, defaultsRight, countsAgree}
 use Rattle.rules.specs.Passed.{positionalFirst, namesApart, nameInside}
 use Rattle.rules.proofs.LawsListing.{and-both, and-left, and-right, all-append}
-use Rattle.rules.proofs.LawsAnswer.{then-left, then-right, ask-true, fine-refuse}
+use Rattle.rules.proofs.LawsAnswer.{then-left, then-right, ask-true}
 
 -- ---- the positional parameters come first
-
-none-first : (qs : List Parameter) → all (λ p. not (positional p)) qs ≡ true → positionalFirst qs ≡ true
-none-first [] e = refl
-none-first (q ∷ qs) e = go (positional q) e
-  where
-    go : (b : Bool) → (not b && all (λ p. not (positional p)) qs) ≡ true → cond b (positionalFirst qs) (all (λ p. not (positional p)) qs) ≡ true
-    go true e₁ = absurd (false≢true e₁)
-    go false e₁ = e₁
 
 -- after a style that takes no position no later style does
 stays-behind : (s : Style) (a : Act) → mayStand s a ≡ true → takesPosition s ≡ false → takesPosition (nextStyle s a) ≡ false

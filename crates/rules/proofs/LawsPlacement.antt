@@ -3,9 +3,9 @@
 -- Assumes nothing.
 use mathlib.Core.Path.{_≡_, refl, sym, ap, ap₂, fun-ext, _∙_}
 use mathlib.Core.Bool.{Bool, true, false, cond, not, _&&_, _||_, false≢true, true≢false}
-use mathlib.Core.List.{List, [], _∷_, _++_, append-assoc, append-nil}
+use mathlib.Core.List.{List, [], _∷_, _++_, append-nil}
 use mathlib.Core.Option.{Option, none, some}
-use Prim.Native.Nat.{ℕ, zero, suc, _+_, _-_, min, _<_, _≤_}
+use Prim.Native.Nat.{ℕ, zero, suc, _+_, _-_, min}
 use native.Mathlib.Nat.{zero-add}
 use native.Mathlib.Omega.{arith}
 use borrow.Author.Tests.{ltb-true, ltb-false}
@@ -13,14 +13,14 @@ use lib.Dec.{ltb}
 use lib.ListN.{length, drop, getD, length-drop}
 use lib.Seq.{append-snoc}
 use Rattle.rules.specs.Listing.{all, any, tally, keep, anyFrom, mapFrom}
-use Rattle.rules.specs.Text.{Text, sameBytes, among, differ}
+use Rattle.rules.specs.Text.{sameBytes, among, differ}
 use Rattle.rules.specs.Value.{Value, noValue}
 use Rattle.rules.specs.CallRecord.{Named}
 use Rattle.rules.specs.Parameters.{Parameter, ParameterKind, required, optional, defaulted, args, kwargs, positional, nameable, positionalCount}
 use Rattle.rules.specs.Lookup.{names, known}
-use Rattle.rules.specs.Placement.{Slot, taken, isTaken, otherwise, takenOr, partner, fromP, slotOf, place, starRemainder, namedRemainder, countsOf}
+use Rattle.rules.specs.Placement.{taken, isTaken, otherwise, takenOr, partner, fromP, slotOf, place, starRemainder, namedRemainder, countsOf}
 use Rattle.rules.specs.Binding.{textsOf, namedBy}
-use Rattle.rules.proofs.LawsListing.{and-left, and-right, and-both, or-left, or-right, or-neither, not-yes, any-append, tally-keep}
+use Rattle.rules.proofs.LawsListing.{and-left, and-right, or-left, or-right, or-neither, not-yes, any-append, tally-keep}
 use Rattle.rules.proofs.LawsText.{sameBytes-eq, eq-sameBytes}
 use Rattle.rules.specs.Passed.{positionalFirst, namesApart}
 

@@ -3,15 +3,14 @@
 -- Assumes nothing.
 use mathlib.Core.Path.{_≡_, refl, sym, ap, ap₂, _∙_}
 use mathlib.Core.List.{List, [], _∷_, _++_, append-assoc, append-nil}
-use Prim.Native.Nat.{ℕ, zero, suc, _+_, _*_, _-_, _/_}
-use native.Mathlib.Nat.{mul-suc, mul-div-cancel-left}
+use Prim.Native.Nat.{ℕ, suc, _+_, _*_, _-_, _/_}
+use native.Mathlib.Nat.{mul-suc}
 use native.Mathlib.Omega.{arith}
-use lib.ListN.{length, drop, getD, length-append}
-use lib.Seq.{drop-at, drop-append-add, drop-drop}
-use lib.Dec.{lit<}
+use lib.ListN.{length, drop, length-append}
+use lib.Seq.{drop-at}
 use Rattle.rules.specs.Cells.{readEach, writeEach}
 use Rattle.rules.specs.Value.{Value, valueWidth, valueCells, readValue}
-use Rattle.rules.specs.ParameterRecord.{Step, ParameterRecord, stepWidth, stepCells, readStep, parameterLength, stepCount, readParameters, encodeParameters}
+use Rattle.rules.specs.ParameterRecord.{Step, ParameterRecord, stepWidth, stepCells, readStep, stepCount, readParameters, encodeParameters}
 use Rattle.rules.specs.CallRecord.{Pair, CallRecord, Head, pairWidth, pairCells, readPair, headWidth, readHead, callLength, readCall, encodeCall}
 
 -- ---- runs of equal things

@@ -1,6 +1,6 @@
 -- Values in the cells of a sheet, both ways (01, sheets): each form is read back as what it was printed from, so a value that is well formed
 -- is read back out of its cell as the same kind and payload, or as the same bytes where it is a text (`round-trip`). Then how long a printed
--- value is (`print-length`, `print-short`), and that it stays one cell (`print-plain`). Digits are in LawsDigits. Assumes nothing.
+-- value is (`print-short`). Digits are in LawsDigits. Assumes nothing.
 use mathlib.Core.Path.{_≡_, refl, sym, ap, _∙_, subst}
 use mathlib.Core.Bool.{Bool, true, false, cond, not, or-false, _&&_, _||_}
 use mathlib.Core.List.{List, [], _∷_}
@@ -14,8 +14,8 @@ use Rattle.rules.specs.Listing.{all}
 use Rattle.rules.specs.Text.{sizeOf, bytesAt, isText, inside}
 use Rattle.rules.specs.Value.{Value, specText, callText, wellFormed, wellFormedDefault, wellFormedArgument}
 use Rattle.rules.specs.SheetValue.{CellValue, written, quoted, glyph, isDigit, isHexDigit, lastDigits, isShortest, decimal, readDecimal, readWhole, printWhole, readBits, readForm, readCell, printValue}
-use Rattle.rules.proofs.LawsListing.{and-left, and-right, and-both}
-use Rattle.rules.proofs.LawsDigits.{glyph-least, glyph-hex, digits-length, digits-all, digits-number, decimal-all, decimal-length, decimal-shortest, decimal-number}
+use Rattle.rules.proofs.LawsListing.{and-left, and-right}
+use Rattle.rules.proofs.LawsDigits.{glyph-hex, digits-length, digits-all, digits-number, decimal-length, decimal-shortest, decimal-number}
 
 -- ---- each form is read back
 
@@ -189,46 +189,9 @@ within spec call kind payload most m s t =
     (omega (arith, whole-length payload)) (omega (arith, digits-length 16 16 payload)) kind
     (λ k. omega (arith, s k, bytes-length spec payload)) (λ k. omega (arith, t k, bytes-length call payload))
 
-pub print-length : (spec call : List ℕ) (v : Value) → length (printValue spec call v) ≤ 256
-unfolding sizeOf
-print-length spec call v = within spec call (v .kind) (v .payload) 255 (omega arith) (λ k. omega arith) (λ k. omega arith)
-
 pub print-short : (spec call : List ℕ) (v : Value) → formed spec call v ≡ true → length (printValue spec call v) ≤ 65
 unfolding specText callText
 print-short spec call v w = within spec call (v .kind) (v .payload) 64 (omega arith) (λ k. short 5 k refl) (λ k. short 6 k refl)
   where
     short : (text : ℕ) → v .kind ≡ text → fits text (v .payload) ≡ leb (sizeOf (v .payload)) 64 → sizeOf (v .payload) ≤ 64
     short text k e = leb-true (sizeOf (v .payload)) 64 (sym e ∙ sym (ap (λ (t : ℕ). fits t (v .payload)) k) ∙ formed-fits spec call v w)
-
--- neither a comma nor byte 10, so that a value is one cell of one line
-abbrev pub plain : ℕ → Bool
-plain b = not (eqb b 44) && not (eqb b 10)
-
-plain-from : (b : ℕ) → 45 ≤ b → plain b ≡ true
-plain-from b h = rw (ne-eqb b 44 (λ e. omega arith), ne-eqb b 10 (λ e. omega arith))
-
-plain-digit : (b : ℕ) → isDigit b ≡ true → plain b ≡ true
-plain-digit b d = plain-from b (omega (arith, leb-true 48 b (and-left (leb 48 b) (leb b 57) d)))
-
-decimal-plain : (n : ℕ) → all plain (decimal n) ≡ true
-decimal-plain n = decimal-all plain plain-digit n
-
-whole-plain : (p : ℕ) → all plain (printWhole p) ≡ true
-unfolding printWhole
-whole-plain p = go (ltb p (2 ^ 63))
-  where
-    go : (b : Bool) → all plain (cond b (decimal p) (45 ∷ decimal (2 ^ 64 - p))) ≡ true
-    go true = decimal-plain p
-    go false = decimal-plain (2 ^ 64 - p)
-
-bits-plain : (p : ℕ) → all plain (lastDigits 16 16 p) ≡ true
-bits-plain p = digits-all 16 plain (λ m. plain-from (glyph (m % 16)) (omega (arith, glyph-least (m % 16)))) 16 p
-
-pub print-plain : (spec call : List ℕ) (v : Value)
-    → (v .kind ≡ specText → all plain (bytesAt spec (v .payload)) ≡ true)
-    → (v .kind ≡ callText → all plain (bytesAt call (v .payload)) ≡ true)
-    → all plain (printValue spec call v) ≡ true
-print-plain spec call v s t =
-    print-forms spec call (v .payload) (λ l. all plain l ≡ true) refl refl
-    (λ mark m. and-both (plain mark) (all plain (decimal (v .payload))) (plain-from mark (omega arith)) (decimal-plain (v .payload)))
-    (whole-plain (v .payload)) (bits-plain (v .payload)) (v .kind) s t

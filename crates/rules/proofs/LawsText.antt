@@ -3,10 +3,9 @@
 use mathlib.Core.Path.{_≡_, refl, sym, ap, ap₂, _∙_}
 use mathlib.Core.Bool.{Bool, true, false, not, _&&_, _||_, false≢true}
 use mathlib.Core.List.{List, [], _∷_, _++_}
-use Prim.Native.Nat.{ℕ, zero, suc, _<_}
+use Prim.Native.Nat.{ℕ, zero, _<_}
 use borrow.Author.Tests.{eq-eqb, eqb-true}
 use lib.Dec.{eqb, leb, leb·zero}
-use lib.ListN.{take, drop, take-append-drop}
 use native.Mathlib.Omega.{arith}
 use Rattle.rules.specs.Text.{Text, sameBytes, among, differ, payloadOf, startOf, sizeOf, inside, isText}
 use Rattle.rules.proofs.LawsListing.{and-left, and-right, and-both, or-left, or-right, or-neither, not-yes, not-of, same-test}

@@ -1,7 +1,7 @@
 -- Accessors (01, accessors): what is read off a call record without a parameter list. P, N and the questions are those of collection; B is the
 -- number of values that each part of a call may have, A the number of parameters that a list may have, on which the output's length rests.
 use mathlib.Core.Bool.{Bool, true, false, cond, _&&_}
-use mathlib.Core.List.{List, [], _∷_, _++_}
+use mathlib.Core.List.{List, [], _++_}
 use Prim.Native.Nat.{ℕ, _+_, _-_}
 use lib.Dec.{leb}
 use lib.ListN.{length, replicate}
@@ -9,7 +9,7 @@ use Rattle.rules.specs.Listing.{all}
 use Rattle.rules.specs.Cells.{writeEach, over}
 use Rattle.rules.specs.Value.{Value, valueCells, noValue}
 use Rattle.rules.specs.Answer.{Answer, fine, refuse, _then_, ask, Detail, bounds}
-use Rattle.rules.specs.CallRecord.{Call, Entry, Key, word, number, Head, readHead, entriesOf, positionalsOf, namedOf}
+use Rattle.rules.specs.CallRecord.{Call, Key, word, number, Head, readHead, entriesOf, positionalsOf, namedOf}
 use Rattle.rules.specs.Board.{namedCells}
 use Rattle.rules.specs.CallQuestions.{askCall, askBoard}
 use Rattle.rules.specs.Binding.{starPasses, doublePasses, askEntries, askNamedRemainder}

@@ -6,7 +6,7 @@ use lib.ListN.{length}
 use Rattle.rules.specs.Listing.{any, anyFrom}
 use Rattle.rules.specs.Text.{Text, among}
 use Rattle.rules.specs.Value.{Value}
-use Rattle.rules.specs.Answer.{Answer, fine, refuse, _then_, ask, Detail, name, count, countAndName, Area, specArea, callArea, partOf}
+use Rattle.rules.specs.Answer.{Answer, fine, refuse, _then_, ask, name, count, countAndName, Area, specArea, callArea, partOf}
 use Rattle.rules.specs.CallRecord.{Call, Named, Entry, Key, word, number, wordOf, Star, noStar, iterable, notIterable, Double, noDouble, dictionary, notDictionary, entriesOf, positionalsOf, namedOf}
 use Rattle.rules.specs.Parameters.{Parameter, Style, posOnly, posOrNamed, namedOnly, noMore, isRequired, hasArgs, hasKwargs}
 use Rattle.rules.specs.Lookup.{names}

@@ -2,7 +2,7 @@
 -- and **kwargs; behind the slots the values of the star remainder and then the pairs of the named one; nothing after that is touched.
 -- The layout rests on 01 alone.
 use mathlib.Core.Path.{_≡_, refl}
-use mathlib.Core.List.{List, [], _∷_, _++_}
+use mathlib.Core.List.{List, _++_}
 use Prim.Native.Nat.{ℕ, _+_, _*_, max}
 use Rattle.rules.specs.Cells.{writeEach, over}
 use Rattle.rules.specs.Value.{Value, valueCells, noValue, callText}

@@ -1,6 +1,6 @@
 -- Questions 9 to 14 (01, the questions, call record). B is the number of values that each part of a call may have.
 -- Each of 9 to 13 is put to the whole record.
-use mathlib.Core.Bool.{Bool, true, false, not, _&&_, _||_}
+use mathlib.Core.Bool.{Bool, true, false, not, _&&_}
 use mathlib.Core.List.{List, [], _∷_, map}
 use Prim.Native.Nat.{ℕ, zero, suc}
 use lib.Dec.{leb, eqb}

@@ -1,7 +1,7 @@
 -- The call record (01, cells, texts and records): six cells of counts and kinds, then the written values, the written pairs, the items of the
 -- star and the entries of the double star. Its reader and its encoder alone know how many cells a pair takes.
 -- 01's own terms defined here: P, the positionals of a call, and N, its named values.
-use mathlib.Core.Bool.{Bool, true, false, cond}
+use mathlib.Core.Bool.{cond}
 use mathlib.Core.List.{List, [], _∷_, _++_, map}
 use Prim.Native.Nat.{ℕ, zero, suc, _+_, _*_}
 use lib.Dec.{eqb}

@@ -1,7 +1,7 @@
 -- Can-fill, whole (01, collector and can-fill): after questions 1 to 11 it looks at how many positionals and which names are written, and at
 -- nothing else of the call. This file mentions neither placement nor any question after 11.
-use mathlib.Core.Bool.{Bool, true, false, cond, not, _&&_, _||_}
-use mathlib.Core.List.{List, [], _∷_, map}
+use mathlib.Core.Bool.{Bool, cond, not, _&&_, _||_}
+use mathlib.Core.List.{List, map}
 use Prim.Native.Nat.{ℕ, _+_}
 use lib.Dec.{leb, ltb, eqb}
 use lib.ListN.{length}

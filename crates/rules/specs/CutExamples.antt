@@ -1,22 +1,20 @@
 -- Demand 3 at work: a call with two values and more names, cut strictly inside both, accepted, refused by 21, and refused by 16 at one
 -- cut and by 19 at another; what can-fill foretells of each; the cells of one cut, written out by hand; and that these calls lie in
 -- demand 3's domain. The proof is `cut-examples` of proofs/.
-use mathlib.Core.Path.{_≡_, refl}
-use mathlib.Core.Bool.{Bool, true, false}
-use mathlib.Core.List.{List, [], _∷_, _++_}
+use mathlib.Core.Path.{_≡_}
+use mathlib.Core.Bool.{true, false}
+use mathlib.Core.List.{List, [], _∷_}
 use Prim.Native.Nat.{ℕ}
-use lib.Dec.{lit≤}
-use lib.ListN.{length, replicate}
 use Rattle.rules.specs.Cells.{over}
 use Rattle.rules.specs.Text.{payloadOf}
 use Rattle.rules.specs.Value.{Value}
 use Rattle.rules.specs.Answer.{name}
 use Rattle.rules.specs.ParameterRecord.{ParameterRecord, encodeParameters}
-use Rattle.rules.specs.CallRecord.{Pair, CallRecord, encodeCall}
+use Rattle.rules.specs.CallRecord.{Pair, encodeCall}
 use Rattle.rules.specs.Collection.{Outcome, refused, accepted}
 use Rattle.rules.specs.CanFill.{Filling, answered, fillings, filledTwice, leftEmpty, canFill, fillable}
 use Rattle.rules.specs.Demand3.{Cut, cutRecord, wholeRecord, Domain}
-use Rattle.rules.specs.Examples.{specBytes, stepsW, listK, step, whole, boardBefore, collected, spec, call}
+use Rattle.rules.specs.Examples.{specBytes, listK, step, whole, boardBefore, collected, spec, call}
 
 -- the bytes of `startminutescropvine`
 unfoldable pub callBytes : List ℕ

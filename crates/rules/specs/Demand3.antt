@@ -9,7 +9,7 @@ use lib.ListN.{length, take, drop}
 use Rattle.rules.specs.Listing.{all}
 use Rattle.rules.specs.Text.{differ}
 use Rattle.rules.specs.Value.{Value, wellFormedArgument}
-use Rattle.rules.specs.Answer.{Answer, fine, refuse, Detail, none}
+use Rattle.rules.specs.Answer.{fine, refuse, Detail, none}
 use Rattle.rules.specs.CallRecord.{Pair, CallRecord, Named, encodeCall, namedIn}
 use Rattle.rules.specs.Parameters.{Parameter, isRequired}
 use Rattle.rules.specs.ParameterQuestions.{askParameters, listOf}
@@ -18,7 +18,7 @@ use Rattle.rules.specs.Board.{boardLeast, boardAfter}
 use Rattle.rules.specs.CallQuestions.{wellFormedPair}
 use Rattle.rules.specs.Binding.{askPlaced, askBinding, textsOf}
 use Rattle.rules.specs.Collection.{Outcome, refused, accepted, callOf, askRecords, collection}
-use Rattle.rules.specs.CanFill.{Filling, answered, fillable}
+use Rattle.rules.specs.CanFill.{answered, fillable}
 
 -- a cut: how many of P and of N are written out, and whether a rest that is empty is given all the same
 pub record Cut : Type 0 where

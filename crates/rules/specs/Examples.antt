@@ -1,14 +1,14 @@
 -- 01's twelve proved examples, on records that the encoders make, as one joint fact about collection. Its proof is `twelve`
 -- of proofs/.
 -- W is 01's list `water(block, /, start, minutes = 30)`, K is W with **kwargs.
-use mathlib.Core.Path.{_≡_, refl}
+use mathlib.Core.Path.{_≡_}
 use mathlib.Core.List.{List, [], _∷_, _++_}
 use Prim.Native.Nat.{ℕ}
 use lib.ListN.{replicate}
 use Rattle.rules.specs.Cells.{over}
 use Rattle.rules.specs.Text.{payloadOf, startOf, sizeOf, bytesAt, inside, isText, textIn}
 use Rattle.rules.specs.Value.{Value, valueWidth, valueCells, readValue, noValue, specText, callText, wellFormed, wellFormedDefault, wellFormedArgument, wellFormedName, wellFormedKey}
-use Rattle.rules.specs.Answer.{Detail, none, name, count, countAndName, Part, Area, specArea, callArea, partOf}
+use Rattle.rules.specs.Answer.{none, name, count, countAndName, Part, Area, specArea, callArea, partOf}
 use Rattle.rules.specs.ParameterRecord.{Step, ParameterRecord, stepWidth, stepCells, readStep, parameterLength, stepCount, readParameters, encodeParameters}
 use Rattle.rules.specs.CallRecord.{Pair, CallRecord, pairWidth, pairCells, readPair, headWidth, readHead, callLength, readCall, encodeCall, namedIn, keyIn, entryIn, callIn, positionalsOf, namedOf}
 use Rattle.rules.specs.Parameters.{comesBefore, act, positional, nameable, positionalOnly, parametersOf, positionalOnlyCount, positionalCount, hasArgs, hasKwargs}

@@ -1,6 +1,6 @@
 -- Name lookup (01, name lookup): which parameter a name in a call means, by its index, if it means one.
 -- 01's own term defined here: a name that is that of a parameter.
-use mathlib.Core.Bool.{Bool, true, false, cond, _&&_}
+use mathlib.Core.Bool.{Bool, cond, _&&_}
 use mathlib.Core.List.{List, [], _∷_}
 use Prim.Native.Nat.{ℕ, suc}
 use Rattle.rules.specs.Listing.{any}

@@ -5,12 +5,12 @@ use mathlib.Core.List.{List, [], _∷_, _++_}
 use Prim.Native.Nat.{ℕ, _+_}
 use lib.Dec.{leb, ltb, eqb}
 use lib.ListN.{length}
-use Rattle.rules.specs.Listing.{all, any}
+use Rattle.rules.specs.Listing.{all}
 use Rattle.rules.specs.Text.{isText, bytesAt}
 use Rattle.rules.specs.Value.{Value, wellFormedDefault}
-use Rattle.rules.specs.Answer.{Answer, fine, refuse, _then_, ask}
+use Rattle.rules.specs.Answer.{Answer, fine, _then_, ask}
 use Rattle.rules.specs.ParameterRecord.{Step, ParameterRecord, stepCount, parameterLength, readParameters}
-use Rattle.rules.specs.Parameters.{Style, posOnly, ParameterKind, required, optional, defaulted, args, kwargs, Act, adds, slash, bareStar, unknownCode, act, mayStand, nextStyle, Parameter, plain, takesName, added, parametersOf, positionalOnlyCount, positionalCount}
+use Rattle.rules.specs.Parameters.{Style, posOnly, required, optional, defaulted, args, kwargs, Act, adds, slash, bareStar, unknownCode, act, mayStand, nextStyle, Parameter, plain, takesName, added, parametersOf, positionalOnlyCount, positionalCount}
 use Rattle.rules.specs.Lookup.{known}
 
 -- 1: the function's name and whole steps, at most A + 2 of them (01: 66), since two marks may stand beside the parameters

@@ -1,6 +1,6 @@
 -- The parameter record (01, cells, texts and records): the function's name, then the steps, each a code, a name and a default. Its reader and
 -- its encoder alone know how many cells a step takes.
-use mathlib.Core.List.{List, [], _∷_, _++_}
+use mathlib.Core.List.{List, _∷_}
 use Prim.Native.Nat.{ℕ, _+_, _-_, _*_, _/_}
 use lib.ListN.{length, drop, getD}
 use Rattle.rules.specs.Cells.{readEach, writeEach}

@@ -1,13 +1,12 @@
 -- The printed list (01, printed list; the Rust's `parameters_str` and `iter_fmt_param_spec`): the items of a parameter list, in the order in
 -- which they are printed, joined by a comma and a blank. Bytes are numbers here, so each text is given beside them.
-use mathlib.Core.Bool.{Bool, true, false, cond, not, _&&_, _||_}
+use mathlib.Core.Bool.{Bool, cond, not, _&&_}
 use mathlib.Core.List.{List, [], _∷_, _++_, map}
 use Prim.Native.Nat.{ℕ, _*_}
 use lib.Dec.{leb, eqb}
 use lib.ListN.{length}
 use Rattle.rules.specs.Listing.{keep}
-use Rattle.rules.specs.Cells.{over}
-use Rattle.rules.specs.Answer.{Answer, fine, refuse, _then_, ask}
+use Rattle.rules.specs.Answer.{_then_, ask}
 use Rattle.rules.specs.Parameters.{Parameter, ParameterKind, required, optional, defaulted, args, kwargs, positional, nameable, positionalOnly, hasArgs, hasKwargs}
 use Rattle.rules.specs.ParameterQuestions.{askParameters, listOf}
 use Rattle.rules.specs.Accessors.{Access, accessOf}

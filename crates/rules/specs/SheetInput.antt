@@ -1,10 +1,10 @@
 -- Reading an input (01, sheets): the parameter sheet, a blank line, the call sheet; or the first line that breaks a rule. A bad line is a number
 -- and a line. Lines count from 1 over the whole input; one past the last is named when the input ends early, 0 when it is too long.
-use mathlib.Core.Bool.{Bool, true, false, cond, not, _&&_, _||_}
+use mathlib.Core.Bool.{Bool, true, false, cond, _&&_}
 use mathlib.Core.List.{List, [], _∷_, _++_, map}
 use Prim.Native.Nat.{ℕ, suc, _+_}
-use lib.Dec.{leb, ltb, eqb}
-use lib.ListN.{length, drop}
+use lib.Dec.{leb, ltb}
+use lib.ListN.{length}
 use Rattle.rules.specs.SheetLines.{linesIn, unended, cellsIn, threeCells, headerRight, Columns, columnsIn, Row, rowIn}
 use Rattle.rules.specs.SheetRows.{isEmpty, parameterRowRight, callRowRight}
 

@@ -1,6 +1,6 @@
 -- From bytes to rows (01, sheets): lines are what byte 10 ends, cells are what commas part, a header says which column is which. Nothing here
 -- knows what a row means.
-use mathlib.Core.Bool.{Bool, true, false, cond, not, _&&_}
+use mathlib.Core.Bool.{Bool, cond, _&&_}
 use mathlib.Core.List.{List, [], _∷_}
 use mathlib.Core.Option.{Option, none, some}
 use Prim.Native.Nat.{ℕ}

@@ -6,7 +6,7 @@ use lib.Dec.{leb}
 use lib.ListN.{length, take, drop, replicate}
 use Rattle.rules.specs.Cells.{over}
 use Rattle.rules.specs.Value.{Value}
-use Rattle.rules.specs.Answer.{Detail, none, name, count, countAndName, bounds, Area, specArea, callArea, Part}
+use Rattle.rules.specs.Answer.{Detail, none, name, count, countAndName, bounds, Area, specArea, callArea}
 use Rattle.rules.specs.ParameterRecord.{encodeParameters}
 use Rattle.rules.specs.CallRecord.{Call, Named, encodeCall, callIn, positionalsOf, namedOf}
 use Rattle.rules.specs.Parameters.{Parameter, ParameterKind, required, optional, defaulted, args, kwargs, parametersOf}

@@ -1,6 +1,6 @@
 -- The records that two sheets describe (01, sheets; cells, texts and records). The texts of a sheet make its area: they lie there one behind the
 -- other, row by row, a row's name before the text of its value.
-use mathlib.Core.Bool.{Bool, true, false, cond, not, _&&_, _||_}
+use mathlib.Core.Bool.{Bool, cond}
 use mathlib.Core.List.{List, [], _∷_, _++_, map}
 use mathlib.Core.Option.{Option, none, some}
 use Prim.Native.Nat.{ℕ, _+_}
@@ -14,7 +14,7 @@ use Rattle.rules.specs.CallRecord.{Pair, CallRecord}
 use Rattle.rules.specs.SheetValue.{CellValue, written, quoted, readCell}
 use Rattle.rules.specs.SheetLines.{Row}
 use Rattle.rules.specs.SheetRows.{codeOf, CallPart, positional, named, star, item, double, entry, isPart, isList, isDict}
-use Rattle.rules.specs.SheetInput.{Verdict, right, bad, rowsOf, parameterLines, callLines, judgeInput}
+use Rattle.rules.specs.SheetInput.{rowsOf, parameterLines, callLines}
 
 -- the bytes that a value brings into its area: a text's
 abbrev pub textOf : Option CellValue → List ℕ

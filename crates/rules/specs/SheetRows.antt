@@ -1,7 +1,7 @@
 -- Which rows may stand in a sheet (01, sheets): each is judged by itself and by the rows before it. Lengths of texts and kinds of keys are no
 -- matter of a sheet. A is the number of parameters that a list may have, B the number of values that each part of a call may have.
-use mathlib.Core.Bool.{Bool, true, false, cond, not, _&&_, _||_}
-use mathlib.Core.List.{List, [], _∷_, _++_}
+use mathlib.Core.Bool.{Bool, true, false, cond, _&&_, _||_}
+use mathlib.Core.List.{List, [], _∷_}
 use mathlib.Core.Option.{Option, none, some}
 use Prim.Native.Nat.{ℕ, _+_}
 use lib.Dec.{leb, ltb, eqb}

@@ -1,6 +1,6 @@
 -- Values in the cells of a sheet (01, sheets): how each is written, and what a cell that is written so stands for. A text is the bytes that stand
 -- in the cell; where it comes to lie in an area is no matter of its cell. Bytes are numbers here, so each is given as text beside them.
-use mathlib.Core.Bool.{Bool, true, false, cond, not, _&&_, _||_}
+use mathlib.Core.Bool.{Bool, false, cond, not, _&&_, _||_}
 use mathlib.Core.List.{List, [], _∷_, _++_}
 use mathlib.Core.Option.{Option, none, some}
 use Prim.Native.Nat.{ℕ, zero, suc, _+_, _-_, _*_, _/_, _%_, _^_}

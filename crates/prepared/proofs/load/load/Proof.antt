@@ -3,7 +3,6 @@
 use mathlib.Core.Path.{_≡_, refl}
 use Prim.Native.Nat.{_≤_, _-_}
 use native.Mathlib.Omega.{arith}
-use lib.ListN.{getD}
 use borrow.Author.Needs.{needs}
 use Rattle.prepared.proofs.LawsLoad.{Loaded, loaded-none, loaded-next, loaded-list}
 use Rattle.prepared.proofs.load.load.Statement.{statement}

@@ -1,7 +1,7 @@
 -- `questions::questions::after_names` meets its contract: 17 by the head, 18 and 19 as the entries answer, then 20 to 24. Assumes nothing.
 use mathlib.Core.Path.{refl, ap}
 use mathlib.Core.List.{List}
-use Prim.Native.Nat.{ℕ, _≤_}
+use Prim.Native.Nat.{ℕ}
 use native.Mathlib.Omega.{arith}
 use Rattle.rules.specs.Answer.{none, name, callArea}
 use Rattle.rules.specs.Collection.{callOf}
