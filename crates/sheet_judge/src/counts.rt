@@ -6,7 +6,6 @@ use sheet_lines::word::is_list;
 ghost use mathlib.Core.Path.{_≡_};
 ghost use mathlib.Core.Bool.{cond};
 ghost use mathlib.Core.List.{[]};
-ghost use Rattle.rules.specs.SheetRows.{isList, isDict};
 ghost use Rattle.sheet_lines.specs.Word.{callPartOf};
 ghost use Rattle.sheet_judge.specs.Counts.{countsOf, moreAs, Few};
 
@@ -52,7 +51,7 @@ pub(crate) fn counts_after(counts: Counts, part: CallPart, value: &[u8]) -> Coun
             counted
         }
         CallPart::Star => {
-            counted.star_kind = list_kind(value);
+            counted.star_kind = kind_of(is_list(value));
             counted
         }
         CallPart::Item => {
@@ -60,7 +59,7 @@ pub(crate) fn counts_after(counts: Counts, part: CallPart, value: &[u8]) -> Coun
             counted
         }
         CallPart::Double => {
-            counted.double_kind = dict_kind(value);
+            counted.double_kind = kind_of(is_dict(value));
             counted
         }
         CallPart::Entry => {
@@ -71,14 +70,9 @@ pub(crate) fn counts_after(counts: Counts, part: CallPart, value: &[u8]) -> Coun
     }
 }
 
-fn list_kind(value: &[u8]) -> u64
-    ensures { λ r. ⌜ r ≡ cond (isList (now (value .entry))) 1 2 ⌝ }
+// The kind of a star's value: 1 if it is what the star takes.
+fn kind_of(one: bool) -> u64
+    ensures { λ r. ⌜ r ≡ cond one 1 2 ⌝ }
 {
-    if is_list(value) { 1 } else { 2 }
-}
-
-fn dict_kind(value: &[u8]) -> u64
-    ensures { λ r. ⌜ r ≡ cond (isDict (now (value .entry))) 1 2 ⌝ }
-{
-    if is_dict(value) { 1 } else { 2 }
+    if one { 1 } else { 2 }
 }

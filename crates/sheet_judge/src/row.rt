@@ -12,7 +12,7 @@ use sheet_values::read::read_cell;
 ghost use mathlib.Core.Path.{_≡_};
 ghost use mathlib.Core.Bool.{_&&_, _||_};
 ghost use lib.Dec.{ltb, eqb};
-ghost use Rattle.rules.specs.SheetRows.{isEmpty, isValue, stepRight, isList, isDict, isOther};
+ghost use Rattle.rules.specs.SheetRows.{isEmpty, isValue, stepRight, isOther};
 ghost use Rattle.sheet_lines.specs.Word.{callPartOf};
 ghost use Rattle.sheet_judge.specs.Counts.{rowWith, parameterFits, fitsAs};
 
@@ -58,14 +58,14 @@ pub(crate) fn call_row_right(counts: Counts, part: CallPart, name: &[u8], value:
     match part {
         CallPart::Positional => plain_right(counts.p, name, value),
         CallPart::Named => named_right(counts.n, value),
-        CallPart::Star => list_right(counts.star_kind, name, value),
+        CallPart::Star => star_right(is_list(value), counts.star_kind, name, value),
         CallPart::Item => {
             if counts.star_kind != 1 {
                 return false;
             }
             plain_right(counts.s, name, value)
         }
-        CallPart::Double => dict_right(counts.double_kind, name, value),
+        CallPart::Double => star_right(is_dict(value), counts.double_kind, name, value),
         CallPart::Entry => {
             if counts.double_kind != 1 {
                 return false;
@@ -106,9 +106,9 @@ fn entry_right(before: usize, name: &[u8], value: &[u8]) -> bool
     named_right(before, value)
 }
 
-// A star, of which there was none.
-fn list_right(kind: u64, name: &[u8], value: &[u8]) -> bool
-    ensures { λ r. ⌜ r ≡ (isEmpty (now (name .entry)) && (isList (now (value .entry)) || isOther (now (value .entry))) && eqb kind 0) ⌝ }
+// A star or a double star, of which there was none: its value is what it takes (`one`) or something else.
+fn star_right(one: bool, kind: u64, name: &[u8], value: &[u8]) -> bool
+    ensures { λ r. ⌜ r ≡ (isEmpty (now (name .entry)) && (one || isOther (now (value .entry))) && eqb kind 0) ⌝ }
 {
     if name.len() != 0 {
         return false;
@@ -116,23 +116,7 @@ fn list_right(kind: u64, name: &[u8], value: &[u8]) -> bool
     if kind != 0 {
         return false;
     }
-    if is_list(value) {
-        return true;
-    }
-    is_other(value)
-}
-
-// The same of a double star.
-fn dict_right(kind: u64, name: &[u8], value: &[u8]) -> bool
-    ensures { λ r. ⌜ r ≡ (isEmpty (now (name .entry)) && (isDict (now (value .entry)) || isOther (now (value .entry))) && eqb kind 0) ⌝ }
-{
-    if name.len() != 0 {
-        return false;
-    }
-    if kind != 0 {
-        return false;
-    }
-    if is_dict(value) {
+    if one {
         return true;
     }
     is_other(value)

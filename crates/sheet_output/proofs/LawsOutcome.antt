@@ -21,9 +21,8 @@ use Rattle.answers.specs.declared.answer.Counts.{Counts}
 use Rattle.answers.specs.declared.answer.Collected.{Collected}
 use Rattle.answers.specs.declared.answer.Collected.the-variants.{Accepted, Record, ArgsArrayIsNotIterable, RepeatedParameter, KwArgsIsNotDict, ArgsValueIsNotString, RepeatedArg, MissingPositionalOnly, Missing, MissingNamedOnly, ExtraPositionalArg, ExtraNamedArg}
 use Rattle.answers.proofs.answer.Collected.{the-type}
-use Rattle.sheet_output.specs.Parts.{linesTo, slotLineAt, remainderText}
+use Rattle.sheet_output.specs.Parts.{linesTo, slotLineAt, stars, names, remainderText}
 use Rattle.sheet_output.specs.Outcome.{heading, countLine, closing, refusedCells, refusedShown, acceptedShown, outcomeShown, Limits}
-use Rattle.sheet_output.specs.declared.parts.Remainder.the-variants.{Star, Named}
 use Rattle.sheet_output.proofs.LawsLine.{put-both}
 use Rattle.sheet_output.proofs.LawsParts.{lines-length, slot-short, remainder-length}
 
@@ -116,7 +115,7 @@ module _ (spec call : List ℕ) (p : Parameters) (board : List ℕ) (c : Counts)
   slots-text = linesTo (slotLineAt spec call p board) (p .len)
 
   abbrev rest-text : List ℕ
-  rest-text = remainderText spec call board (Star (2 * p .len) (c .star)) ++ remainderText spec call board (Named (2 * p .len + 2 * c .star) (c .named))
+  rest-text = remainderText spec call board (stars (2 * p .len) (c .star)) ++ remainderText spec call board (names (2 * p .len + 2 * c .star) (c .named))
 
   pub slots-most : length slots-text ≤ 9728
   slots-most = omega (arith, limits .slots, lines-length (slotLineAt spec call p board) 152 (slot-short spec call p board) (p .len))
@@ -127,9 +126,9 @@ module _ (spec call : List ℕ) (p : Parameters) (board : List ℕ) (c : Counts)
         arith,
         limits .star,
         limits .named,
-        length-append (remainderText spec call board (Star (2 * p .len) (c .star))) (remainderText spec call board (Named (2 * p .len + 2 * c .star) (c .named))),
-        remainder-length spec call board (Star (2 * p .len) (c .star)),
-        remainder-length spec call board (Named (2 * p .len + 2 * c .star) (c .named)),
+        length-append (remainderText spec call board (stars (2 * p .len) (c .star))) (remainderText spec call board (names (2 * p .len + 2 * c .star) (c .named))),
+        remainder-length spec call board (stars (2 * p .len) (c .star)),
+        remainder-length spec call board (names (2 * p .len + 2 * c .star) (c .named)),
       )
 
   accepted-most : length (heading ++ (slots-text ++ (rest-text ++ closing (c .taken) (c .defaulted)))) ≤ 36556

@@ -1,9 +1,10 @@
 -- Lines that a loop writes one behind the other (01, sheets): how far they reach, one more of them; and how long the lines of a board are.
 -- Assumes nothing.
-use mathlib.Core.Path.{_≡_, refl, sym, ap, subst}
+use mathlib.Core.Path.{_≡_, refl, sym, ap}
+use mathlib.Core.Bool.{Bool, true, false}
 use mathlib.Core.List.{List, [], _∷_, _++_}
-use Prim.Native.Nat.{ℕ, zero, suc, _+_, _*_, _≤_}
-use native.Mathlib.Nat.{mul-suc}
+use Prim.Native.Nat.{ℕ, zero, suc, _+_, _*_, _≤_, _<_}
+use native.Mathlib.Nat.{mul-suc, mul-le-mul-left}
 use native.Mathlib.Numerals.{add-one}
 use native.Mathlib.Omega.{arith}
 use lib.ListN.{length, getD, length-append}
@@ -16,9 +17,8 @@ use Rattle.cells.specs.Record.{pairAt}
 use Rattle.cells.proofs.LawsOut.{put-none, put-same}
 use Rattle.builder.specs.declared.params.Parameters.{Parameters}
 use Rattle.sheet_output.specs.Line.{shownName, shownValue, nameFor, shownFor}
-use Rattle.sheet_output.specs.Parts.{linesTo, slotLine, slotLineAt, starLine, starLineAt, namedLine, namedLineAt, remainderText, remainderMost, Near}
+use Rattle.sheet_output.specs.Parts.{linesTo, slotLine, slotLineAt, starLine, starLineAt, namedLine, namedLineAt, elementLine, elementMost, remainderText, remainderMost}
 use Rattle.sheet_output.specs.declared.parts.Remainder.{Remainder}
-use Rattle.sheet_output.specs.declared.parts.Remainder.the-variants.{Star, Named}
 use Rattle.sheet_output.proofs.LawsLine.{shownName-length, shownValue-length, nameFor-length, shownFor-length, put-both}
 
 -- ---- lines of at most `w` bytes
@@ -61,13 +61,13 @@ module _ (spec call : List ℕ) where
   unfolding slotLineAt
   slot-short p board i = slotLine-length i (getD (p .codes) i 0) (getD (p .names) i 0) (pairAt board (2 * i))
 
-  pub star-short : (board : List ℕ) (from k : ℕ) → length (starLineAt spec call board from k) ≤ 72
+  star-short : (board : List ℕ) (from k : ℕ) → length (starLineAt spec call board from k) ≤ 72
   unfolding starLineAt starLine
   star-short board from k =
       let v : Value = pairAt board (from + 2 * k) in
       omega (arith, line-length (115 ∷ 116 ∷ 97 ∷ 114 ∷ []) [] (shownValue spec call v), shownValue-length spec call v)
 
-  pub named-short : (board : List ℕ) (from k : ℕ) → length (namedLineAt spec call board from k) ≤ 137
+  named-short : (board : List ℕ) (from k : ℕ) → length (namedLineAt spec call board from k) ≤ 137
   unfolding namedLineAt namedLine
   named-short board from k =
       let key : Value = pairAt board (from + 4 * k) in
@@ -79,20 +79,17 @@ module _ (spec call : List ℕ) where
         shownValue-length spec call v,
       )
 
+  pub element-short : (named : Bool) (board : List ℕ) (from k : ℕ) → length (elementLine named spec call board from k) ≤ elementMost named
+  element-short true board from k = named-short board from k
+  element-short false board from k = star-short board from k
+
   -- a remainder's lines
   pub remainder-length : (board : List ℕ) (r : Remainder) → length (remainderText spec call board r) ≤ remainderMost r
-  remainder-length board (Star from count) = lines-length (starLineAt spec call board from) 72 (star-short board from) count
-  remainder-length board (Named from count) = lines-length (namedLineAt spec call board from) 137 (named-short board from) count
+  remainder-length board r =
+      lines-length (elementLine (r .named) spec call board (r .from)) (elementMost (r .named)) (element-short (r .named) board (r .from)) (r .count)
 
--- what is asked of a remainder, by its sort
-pub star-ready : (r : Remainder) (from count at n : ℕ) → r ≡ Star from count → Near r × (at + remainderMost r + 512 ≤ n)
-    → (from ≤ 1024) × (count ≤ 128) × (at + 72 * count + 512 ≤ n)
-star-ready r from count at n e p =
-    let q : Near (Star from count) × (at + remainderMost (Star from count) + 512 ≤ n) = subst (λ x. Near x × (at + remainderMost x + 512 ≤ n)) e p in
-    (q .0 .0, q .0 .1, q .1)
-
-pub named-ready : (r : Remainder) (from count at n : ℕ) → r ≡ Named from count → Near r × (at + remainderMost r + 512 ≤ n)
-    → (from ≤ 1024) × (count ≤ 128) × (at + 137 * count + 512 ≤ n)
-named-ready r from count at n e p =
-    let q : Near (Named from count) × (at + remainderMost (Named from count) + 512 ≤ n) = subst (λ x. Near x × (at + remainderMost x + 512 ≤ n)) e p in
-    (q .0 .0, q .0 .1, q .1)
+-- one more line of at most `w` bytes
+pub line-more : (w k count : ℕ) → k < count → w * k + w ≤ w * count
+line-more w k count h =
+    let next : suc k ≤ count = omega arith in
+    omega (arith, mul-suc w k, mul-le-mul-left w next)

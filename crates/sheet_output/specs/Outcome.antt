@@ -19,8 +19,7 @@ use Rattle.answers.specs.Answer.{told, nameBytes}
 use Rattle.answers.specs.declared.answer.Counts.{Counts}
 use Rattle.answers.specs.declared.answer.Collected.{Collected}
 use Rattle.answers.specs.declared.answer.Collected.the-variants.{Accepted, Record, ArgsArrayIsNotIterable, RepeatedParameter, KwArgsIsNotDict, ArgsValueIsNotString, RepeatedArg, MissingPositionalOnly, Missing, MissingNamedOnly, ExtraPositionalArg, ExtraNamedArg}
-use Rattle.sheet_output.specs.Parts.{linesTo, slotLineAt, remainderText}
-use Rattle.sheet_output.specs.declared.parts.Remainder.the-variants as remainder
+use Rattle.sheet_output.specs.Parts.{linesTo, slotLineAt, stars, names, remainderText}
 
 -- `slot,name,value`
 unfoldable pub heading : List ℕ
@@ -41,7 +40,7 @@ unfoldable pub acceptedShown : List ℕ → List ℕ → Parameters → List ℕ
 acceptedShown spec call p board c =
     heading
     ++ (linesTo (slotLineAt spec call p board) (p .len)
-    ++ ((remainderText spec call board (remainder.Star (2 * p .len) (c .star)) ++ remainderText spec call board (remainder.Named (2 * p .len + 2 * c .star) (c .named)))
+    ++ ((remainderText spec call board (stars (2 * p .len) (c .star)) ++ remainderText spec call board (names (2 * p .len + 2 * c .star) (c .named)))
     ++ closing (c .taken) (c .defaulted)))
 
 -- the number that goes with an answer

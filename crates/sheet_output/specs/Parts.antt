@@ -1,4 +1,5 @@
 -- The lines of an accepted call (01, sheets), off the list's columns and the board, one at each index.
+use mathlib.Core.Bool.{Bool, true, false}
 use mathlib.Core.List.{List, [], _∷_, _++_}
 use Prim.Native.Nat.{ℕ, zero, suc, _+_, _*_, _≤_}
 use lib.ListN.{getD}
@@ -9,7 +10,6 @@ use Rattle.cells.specs.Record.{pairAt}
 use Rattle.builder.specs.declared.params.Parameters.{Parameters}
 use Rattle.sheet_output.specs.Line.{shownName, shownValue, nameFor, shownFor}
 use Rattle.sheet_output.specs.declared.parts.Remainder.{Remainder}
-use Rattle.sheet_output.specs.declared.parts.Remainder.the-variants.{Star, Named}
 
 -- the lines at the indices below a number
 abbrev pub linesTo : (ℕ → List ℕ) → ℕ → List ℕ
@@ -37,16 +37,29 @@ starLineAt spec call board from k = starLine spec call (pairAt board (from + 2 *
 unfoldable pub namedLineAt : List ℕ → List ℕ → List ℕ → ℕ → ℕ → List ℕ
 namedLineAt spec call board from k = namedLine spec call (pairAt board (from + 4 * k)) (pairAt board (from + 4 * k + 2))
 
-abbrev pub remainderText : List ℕ → List ℕ → List ℕ → Remainder → List ℕ
-remainderText spec call board (Star from count) = linesTo (starLineAt spec call board from) count
-remainderText spec call board (Named from count) = linesTo (namedLineAt spec call board from) count
+-- element k of a remainder of either sort
+abbrev pub elementLine : Bool → List ℕ → List ℕ → List ℕ → ℕ → ℕ → List ℕ
+elementLine true spec call board from k = namedLineAt spec call board from k
+elementLine false spec call board from k = starLineAt spec call board from k
 
--- how many bytes a remainder's lines have at the most
+-- the two sorts
+abbrev pub stars : ℕ → ℕ → Remainder
+stars from count = record { named = false; from = from; count = count }
+
+abbrev pub names : ℕ → ℕ → Remainder
+names from count = record { named = true; from = from; count = count }
+
+abbrev pub remainderText : List ℕ → List ℕ → List ℕ → Remainder → List ℕ
+remainderText spec call board r = linesTo (elementLine (r .named) spec call board (r .from)) (r .count)
+
+-- how many bytes an element's line has at the most, and a remainder's lines
+abbrev pub elementMost : Bool → ℕ
+elementMost true = 137
+elementMost false = 72
+
 abbrev pub remainderMost : Remainder → ℕ
-remainderMost (Star from count) = 72 * count
-remainderMost (Named from count) = 137 * count
+remainderMost r = elementMost (r .named) * r .count
 
 -- a remainder's cells are near: no index of them is past a number of the machine
 abbrev pub Near : Remainder → Type 0
-Near (Star from count) = (from ≤ 1024) × (count ≤ 128)
-Near (Named from count) = (from ≤ 1024) × (count ≤ 128)
+Near r = (r .from ≤ 1024) × (r .count ≤ 128)

@@ -84,8 +84,16 @@ fn write_accepted<'a>(
 {
     let params = list.params;
     let from = 2 * params.len;
-    let star = Remainder::Star(from, counts.star);
-    let named = Remainder::Named(from + 2 * counts.star, counts.named);
+    let star = Remainder {
+        named: false,
+        from,
+        count: counts.star,
+    };
+    let named = Remainder {
+        named: true,
+        from: from + 2 * counts.star,
+        count: counts.named,
+    };
     let slots = write_heading(out);
     let rest = write_slots(spec, call, params, board, slots, out);
     let last = write_remainders(star, named, spec, call, board, rest, out);

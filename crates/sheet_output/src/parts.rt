@@ -14,12 +14,14 @@ ghost use Prim.Native.Nat.{_+_, _*_, _≤_};
 ghost use lib.ListN.{length};
 ghost use Rattle.cells.specs.Value.{pairOf};
 ghost use Rattle.cells.specs.Out.{Put};
-ghost use Rattle.sheet_output.specs.Parts.{linesTo, slotLine, slotLineAt, starLine, starLineAt, namedLine, namedLineAt, remainderText, remainderMost, Near};
+ghost use Rattle.sheet_output.specs.Parts.{linesTo, slotLine, slotLineAt, starLine, namedLine, elementLine, remainderText, remainderMost, Near};
 
-// A remainder on the board, by the cell where it begins and how many elements it has: values of two cells, or names with values, of four.
-pub enum Remainder {
-    Star(usize, usize),
-    Named(usize, usize),
+// A remainder on the board: the cell where it begins and how many elements it has, which are values of two cells or, if `named`, names with
+// values, of four.
+pub struct Remainder {
+    pub named: bool,
+    pub from: usize,
+    pub count: usize,
 }
 
 // A line for each slot.
@@ -89,6 +91,7 @@ pub(crate) fn write_remainders<'a>(
     write_remainder(second, spec, call, board, next, out)
 }
 
+// A line for each element of a remainder.
 fn write_remainder<'a>(
     rest: Remainder,
     spec: &'a [u8],
@@ -100,34 +103,44 @@ fn write_remainder<'a>(
     requires { ⌜ Near rest × (at + remainderMost rest + 512 ≤ length (now out)) ⌝ }
     ensures { λ r. ⌜ Put (remainderText (now (spec .entry)) (now (call .entry)) (now (board .entry)) rest) at (now (out .entry)) (now (out .exit)) r ⌝ }
 {
-    match rest {
-        Remainder::Star(from, count) => write_stars(spec, call, board, from, count, at, out),
-        Remainder::Named(from, count) => write_named(spec, call, board, from, count, at, out),
-    }
-}
-
-// `star`, nothing and the value, for each value of the star remainder.
-fn write_stars<'a>(
-    spec: &'a [u8],
-    call: &'a [u8],
-    board: &'a [u64],
-    from: usize,
-    count: usize,
-    at: usize,
-    out: &mut [u8],
-) -> usize
-    requires { ⌜ (from ≤ 1024) × (count ≤ 128) × (at + 72 * count + 512 ≤ length (now out)) ⌝ }
-    ensures { λ r. ⌜ Put (linesTo (starLineAt (now (spec .entry)) (now (call .entry)) (now (board .entry)) from) count) at (now (out .entry)) (now (out .exit)) r ⌝ }
-{
     let mut end = at;
     let mut k = 0;
-    while k < count {
-        end = write_star(spec, call, pair_at(board, from + 2 * k), end, out);
+    while k < rest.count {
+        end = write_element(rest.named, spec, call, board, rest.from, k, end, out);
         k += 1;
     }
     end
 }
 
+// Element k of a remainder whose cells begin at `from`.
+fn write_element<'a>(
+    named: bool,
+    spec: &'a [u8],
+    call: &'a [u8],
+    board: &'a [u64],
+    from: usize,
+    k: usize,
+    at: usize,
+    out: &mut [u8],
+) -> usize
+    requires { ⌜ (from ≤ 1024) × (k ≤ 128) × (at + 512 ≤ length (now out)) ⌝ }
+    ensures { λ r. ⌜ Put (elementLine named (now (spec .entry)) (now (call .entry)) (now (board .entry)) from k) at (now (out .entry)) (now (out .exit)) r ⌝ }
+{
+    if named {
+        let key = from + 4 * k;
+        return write_name(
+            spec,
+            call,
+            pair_at(board, key),
+            pair_at(board, key + 2),
+            at,
+            out,
+        );
+    }
+    write_star(spec, call, pair_at(board, from + 2 * k), at, out)
+}
+
+// `star`, nothing and the value.
 fn write_star<'a>(spec: &'a [u8], call: &'a [u8], value: Pair, at: usize, out: &mut [u8]) -> usize
     requires { ⌜ at + 512 ≤ length (now out) ⌝ }
     ensures { λ r. ⌜ Put (starLine (now (spec .entry)) (now (call .entry)) (pairOf value)) at (now (out .entry)) (now (out .exit)) r ⌝ }
@@ -136,36 +149,7 @@ fn write_star<'a>(spec: &'a [u8], call: &'a [u8], value: Pair, at: usize, out: &
     value_cell(spec, call, value, third, out)
 }
 
-// `named`, the name and the value, for each pair of the named remainder.
-fn write_named<'a>(
-    spec: &'a [u8],
-    call: &'a [u8],
-    board: &'a [u64],
-    from: usize,
-    count: usize,
-    at: usize,
-    out: &mut [u8],
-) -> usize
-    requires { ⌜ (from ≤ 1024) × (count ≤ 128) × (at + 137 * count + 512 ≤ length (now out)) ⌝ }
-    ensures { λ r. ⌜ Put (linesTo (namedLineAt (now (spec .entry)) (now (call .entry)) (now (board .entry)) from) count) at (now (out .entry)) (now (out .exit)) r ⌝ }
-{
-    let mut end = at;
-    let mut k = 0;
-    while k < count {
-        let key = from + 4 * k;
-        end = write_name(
-            spec,
-            call,
-            pair_at(board, key),
-            pair_at(board, key + 2),
-            end,
-            out,
-        );
-        k += 1;
-    }
-    end
-}
-
+// `named`, the name and the value.
 fn write_name<'a>(
     spec: &'a [u8],
     call: &'a [u8],

@@ -23,7 +23,7 @@ returns-4 : tie.Need-returns-4
 returns-4 c = rw (c .before .enum-told2 .given .1) (c .named-right .ensures)
 
 returns-5 : tie.Need-returns-5
-returns-5 c = rw (c .before .enum-told3 .given .1) (c .list-right .ensures)
+returns-5 c = rw (c .before .before .enum-told3 .given .1, ← c .before .is-list .ensures) (c .star-right .ensures)
 
 returns-6 : tie.Need-returns-6
 returns-6 c =
@@ -32,7 +32,7 @@ returns-6 c =
     (c .plain-right2 .ensures ∙ sym (item-list 64 (a .counts) (a .name .now) (a .value .now) (c .before .if1 .left)))
 
 returns-7 : tie.Need-returns-7
-returns-7 c = rw (c .before .enum-told5 .given .1) (c .dict-right .ensures)
+returns-7 c = rw (c .before .before .enum-told5 .given .1, ← c .before .is-dict .ensures) (c .star-right2 .ensures)
 
 returns-8 : tie.Need-returns-8
 returns-8 c =
@@ -41,4 +41,4 @@ returns-8 c =
     (c .entry-right .ensures ∙ sym (entry-dict 64 (a .counts) (a .name .now) (a .value .now) (c .before .if2 .left)))
 
 pub call-row-right-spec : {M : Type 1} → statement M
-call-row-right-spec = tie.close (tie.spec (λ c. search needs) (λ c κs. search needs) (λ c. search needs) (λ c κs. search needs) (λ c. search needs) (λ c κs. search needs) (λ c. search needs) returns (λ c κs. search needs) (λ c. search needs) (λ c κs. search needs) (λ c. search needs) returns-2 (λ c κs. search needs) (λ c. search needs) returns-3 returns-4 returns-5 returns-6 returns-7 returns-8 (λ c. search needs))
+call-row-right-spec = tie.close (tie.spec (λ c. search needs) (λ c κs. search needs) (λ c. search needs) (λ c κs. search needs) (λ c. search needs) (λ c κs. search needs) (λ c κs. search needs) (λ c. search needs) returns (λ c κs. search needs) (λ c. search needs) (λ c κs. search needs) (λ c κs. search needs) (λ c. search needs) returns-2 (λ c κs. search needs) (λ c. search needs) returns-3 returns-4 returns-5 returns-6 returns-7 returns-8 (λ c. search needs))
