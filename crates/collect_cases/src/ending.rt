@@ -1,6 +1,6 @@
 // What collection and can-fill answer, against the numbers that the input has for it.
 use answers::answer::Collected;
-use collector::can_fill::CanFill;
+use can_fill::CanFill;
 use replay::compare::Place;
 use replay::compare::same;
 use replay::numbers::take;

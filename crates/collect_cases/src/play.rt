@@ -5,7 +5,7 @@ use crate::ending::same_ending;
 use crate::ending::same_filling;
 use answers::answer::Collected;
 use answers::detail::name_of;
-use collector::can_fill::can_fill_with_args;
+use can_fill::can_fill_with_args;
 use collector::collect::collect;
 use replay::compare::Place;
 use replay::compare::fill_board;

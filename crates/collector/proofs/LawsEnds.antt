@@ -45,7 +45,7 @@ use Rattle.answers.specs.declared.answer.Collected.{Collected}
 use Rattle.answers.specs.declared.answer.Collected.the-variants.{Accepted, Record, ArgsArrayIsNotIterable, RepeatedParameter, KwArgsIsNotDict, ArgsValueIsNotString, RepeatedArg, MissingPositionalOnly, Missing, MissingNamedOnly, ExtraPositionalArg, ExtraNamedArg}
 use Rattle.cells.proofs.LawsOut.{stored-first}
 use Rattle.cells.proofs.LawsWrite.{valueCells-two}
-use Rattle.collector.proofs.LawsFillable.{positionals-are}
+use Rattle.findings.proofs.LawsRecord.{positionals-are}
 use Rattle.findings.proofs.LawsNames.{few-list, length-list}
 use Rattle.slots.proofs.LawsWritten.{board-placed, counts-placed}
 

@@ -33,7 +33,7 @@ use Rattle.findings.specs.EntriesDone.{writtenNames, entryAt, entriesIn}
 use Rattle.calls.specs.Values.{positionalAt}
 use Rattle.questions.specs.Questions.{CallReady}
 use Rattle.calls.proofs.LawsNamed.{name-inside}
-use Rattle.collector.proofs.LawsFillable.{pairs-listed, name-formed}
+use Rattle.findings.proofs.LawsRecord.{pairs-listed, name-formed}
 
 -- ---- runs of pairs, by index
 

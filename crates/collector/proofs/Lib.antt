@@ -1,6 +1,3 @@
--- Laws of collection and can-fill, by subject.
-pub mod LawsFilling
-pub mod LawsCanFill
-pub mod LawsFillable
+-- Laws of collection, by subject.
 pub mod LawsReady
 pub mod LawsEnds

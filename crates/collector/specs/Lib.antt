@@ -1,3 +1,2 @@
--- What collection and can-fill promise.
-pub mod CanFill
+-- What collection promises.
 pub mod Collect

@@ -25,10 +25,10 @@ use Rattle.rules.proofs.LawsListing.{and-left, and-right, and-no-left}
 use Rattle.rules.proofs.Demand3.{demand-3-64}
 use Rattle.calls.proofs.LawsEach.{each-length}
 use Rattle.answers.specs.Answer.{told}
-use Rattle.collector.specs.CanFill.{fillingIn}
+use Rattle.can_fill.specs.CanFill.{fillingIn}
 use Rattle.collector.specs.Collect.{Ends}
 use Rattle.answers.specs.declared.answer.Collected.{Collected}
-use Rattle.collector.specs.declared.can_fill.CanFill.{CanFill}
+use Rattle.can_fill.specs.declared.CanFill.{CanFill}
 use Rattle.cuts.specs.Record.{valuesOf, pairsOf, headCells, runOf, Fits}
 use Rattle.cuts.specs.Play.{passes, sizesRight, passing, inDomain, Demanded, Playing, recordsPass, Tried}
 use Rattle.cuts.specs.declared.Played.{Played}

@@ -20,7 +20,7 @@ use Rattle.rules.proofs.LawsAnswer.{then-left, then-right, ask-true}
 use Rattle.rules.proofs.LawsCut.{call-fine}
 use Rattle.calls.proofs.LawsCall.{form-parts}
 use Rattle.answers.specs.declared.answer.Collected.{Collected}
-use Rattle.collector.specs.declared.can_fill.CanFill.{CanFill}
+use Rattle.can_fill.specs.declared.CanFill.{CanFill}
 use Rattle.cuts.specs.Play.{passes}
 use Rattle.cuts.specs.declared.Played.{Played}
 use Rattle.cuts.specs.declared.Played.the-variants.{Outside, Ended}

@@ -19,10 +19,10 @@ use Rattle.rules.specs.Collection.{Outcome, refused, accepted, boardLeft, callO
 use Rattle.rules.specs.CanFill.{answered, fillable}
 use Rattle.rules.specs.Demand3.{Cut, merge, isAccepted, Domain, cutCells, ending, Placed}
 use Rattle.answers.specs.Answer.{told}
-use Rattle.collector.specs.CanFill.{fillingIn}
+use Rattle.can_fill.specs.CanFill.{fillingIn}
 use Rattle.collector.specs.Collect.{Ends}
 use Rattle.answers.specs.declared.answer.Collected.{Collected}
-use Rattle.collector.specs.declared.can_fill.CanFill.{CanFill}
+use Rattle.can_fill.specs.declared.CanFill.{CanFill}
 use Rattle.cuts.specs.Record.{valuesOf, pairsOf}
 use Rattle.cuts.specs.declared.Played.{Played}
 use Rattle.cuts.specs.declared.Played.the-variants.{Outside, Ended}

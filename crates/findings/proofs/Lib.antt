@@ -7,3 +7,5 @@ pub mod LawsEntries
 pub mod LawsEntry
 pub mod LawsLoop
 pub mod LawsPrepared
+pub mod LawsRecord
+pub mod LawsKinds

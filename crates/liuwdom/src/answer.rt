@@ -1,7 +1,7 @@
 // The answer of an exported function: what each answer of the code says in the eight cells of a lent array.
 use accessors::answer::Accessed;
 use answers::answer::Collected;
-use collector::can_fill::CanFill;
+use can_fill::CanFill;
 use lookup::Finding;
 use prepared::Preparation;
 use prepared::PreparedBound;
@@ -16,7 +16,7 @@ ghost use Rattle.rules.specs.Text.{startOf, sizeOf};
 ghost use Rattle.answers.specs.Answer.{told};
 ghost use Rattle.accessors.specs.Answer as accessors;
 ghost use Rattle.printer.specs.Printed as printer;
-ghost use Rattle.collector.specs.CanFill.{fillingIn};
+ghost use Rattle.can_fill.specs.CanFill.{fillingIn};
 ghost use Rattle.lookup.specs.Lookup.{findingOf};
 ghost use Rattle.prepared.specs.Bind.{toldBy};
 ghost use Rattle.reader.specs.Parser.{readOf};
@@ -145,7 +145,7 @@ pub fn prepared_bound(r: PreparedBound) -> Told
     }
 }
 
-pub fn can_fill(r: CanFill) -> Told
+pub fn filled(r: CanFill) -> Told
     ensures { λ t. ⌜ toldCells t ≡ fillingAnswer (fillingIn r) ⌝ }
 {
     match r {

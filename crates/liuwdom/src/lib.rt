@@ -8,8 +8,8 @@ use accessors::optional::positional;
 use accessors::positions::positions;
 use answer::accessed;
 use answer::bound;
-use answer::can_fill;
 use answer::collected;
+use answer::filled;
 use answer::found;
 use answer::prepared;
 use answer::prepared_bound;
@@ -18,8 +18,8 @@ use answer::read;
 use answer::refused;
 use answer::sheets_read;
 use builder::build;
+use can_fill::can_fill_with_args;
 use cells::answer::Answer;
-use collector::can_fill::can_fill_with_args;
 use collector::collect::collect;
 use lookup::get_str;
 use prepared::bind_prepared;
@@ -104,7 +104,7 @@ pub extern "C" fn liuwdom_can_fill(
 ) -> u64
     ensures { λ r. ⌜ Says (fillingAnswer (fillable 64 64 (now («spec_cells» .entry)) (now (spec .entry)) (now («call_cells» .entry)) (now (call .entry)))) (now (answer .exit)) r ⌝ }
 {
-    can_fill(can_fill_with_args(spec_cells, spec, call_cells, call)).write(answer)
+    filled(can_fill_with_args(spec_cells, spec, call_cells, call)).write(answer)
 }
 
 // The index of the nameable parameter with these bytes.

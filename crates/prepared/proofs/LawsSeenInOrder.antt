@@ -32,7 +32,7 @@ use Rattle.calls.specs.Runs.{pairsAt}
 use Rattle.calls.proofs.LawsNamed.{word-text}
 use Rattle.calls.proofs.LawsCall.{lengths-few, entries-within, form-lengths, form-kinds}
 use Rattle.calls.proofs.LawsPlaces.{words-named, named-run, entries-run, positionals-length, star-passes, double-passes}
-use Rattle.collector.proofs.LawsFillable.{name-formed}
+use Rattle.findings.proofs.LawsRecord.{name-formed}
 use Rattle.collector.proofs.LawsReady.{run-listed, named-near, named-there, keys-formed}
 use Rattle.prepared.specs.Prepared.{listIn, isPrepared}
 use Rattle.prepared.specs.Rows.{rowAt, paramAt, Keyed}

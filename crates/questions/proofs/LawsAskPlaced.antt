@@ -1,19 +1,18 @@
 -- 20 to 24 as the code asks them are 20 to 24.
 -- Assumes nothing.
 use mathlib.Core.Path.{_≡_, refl, sym, ap, ap₂, _∙_}
-use mathlib.Core.Bool.{Bool, true, false, cond, _||_}
+use mathlib.Core.Bool.{Bool, true, false, cond}
 use mathlib.Core.List.{List, [], _∷_, map}
 use mathlib.Core.Option.{Option, none, some}
 use Prim.Native.Nat.{ℕ, zero, suc, _+_, _-_, min, _≤_, _<_}
 use native.Mathlib.Omega.{arith}
 use borrow.Author.Tests.{lt-ltb, le-ltb}
 use lib.ListN.{length, take, getD}
-use Rattle.rules.specs.Listing.{any, firstFrom}
 use Rattle.rules.specs.Text.{textIn}
 use Rattle.rules.specs.Value.{Value, noValue, readValue}
 use Rattle.rules.specs.Answer.{Answer, fine, refuse, _then_, name, count, countAndName, specArea, callArea, partOf}
 use Rattle.rules.specs.CallRecord.{Head, Named, namedIn, readPair}
-use Rattle.rules.specs.Parameters.{Parameter, isArgs, isKwargs, positionalCount, argsIndex, kwargsIndex, hasArgs, hasKwargs}
+use Rattle.rules.specs.Parameters.{Parameter, positionalCount, hasArgs, hasKwargs}
 use Rattle.rules.specs.Placement.{place, starRemainder, namedRemainder}
 use Rattle.rules.specs.Binding.{missing, askStarRemainder, askNamedRemainder, askPlaced}
 use Rattle.cells.specs.Record.{pairAt}
@@ -30,26 +29,9 @@ use Rattle.questions.specs.declared.judge.Judged.{Judged}
 use Rattle.questions.specs.declared.judge.Judged.the-variants.{Fine, Refused}
 use Rattle.answers.specs.declared.answer.Collected.the-variants.{ExtraPositionalArg, ExtraNamedArg}
 use Rattle.findings.proofs.LawsAsked.{isSome, missingAt}
+use Rattle.findings.proofs.LawsKinds.{args-found, kwargs-found}
 use Rattle.slots.proofs.LawsPlaced.{parameter, required-found}
 use Rattle.slots.proofs.LawsWritten.{star-length, remainder-length}
-
--- ---- a parameter that takes what is left over
-
-any-found : {X : Type 0} (test : X → Bool) (i : ℕ) (xs : List X) → any test xs ≡ isSome (firstFrom test i xs)
-any-found test i [] = refl
-any-found test i (x ∷ xs) = go (test x) (any-found test (suc i) xs)
-  where
-    go : (b : Bool) → any test xs ≡ isSome (firstFrom test (suc i) xs) → (b || any test xs) ≡ isSome (cond b (some i) (firstFrom test (suc i) xs))
-    go true e = refl
-    go false e = e
-
-pub args-found : (qs : List Parameter) → hasArgs qs ≡ isSome (argsIndex qs)
-unfolding hasArgs argsIndex
-args-found qs = any-found (λ q. isArgs (q .kind)) 0 qs
-
-pub kwargs-found : (qs : List Parameter) → hasKwargs qs ≡ isSome (kwargsIndex qs)
-unfolding hasKwargs kwargsIndex
-kwargs-found qs = any-found (λ q. isKwargs (q .kind)) 0 qs
 
 -- ---- 23 and 24
 

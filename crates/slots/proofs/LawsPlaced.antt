@@ -7,7 +7,7 @@ use mathlib.Core.List.{List, _∷_}
 use Prim.Native.Nat.{ℕ, zero, suc, _+_, _-_, min, _≤_, _<_}
 use native.Mathlib.Nat.{zero-add, sub-zero}
 use native.Mathlib.Omega.{arith}
-use borrow.Author.Tests.{ltb-true, ne-eqb}
+use borrow.Author.Tests.{ltb-true}
 use lib.Dec.{eqb, ltb, eqb·suc-zero}
 use lib.ListN.{length, drop, getD}
 use Rattle.rules.specs.Listing.{mapFrom}
@@ -34,6 +34,7 @@ use Rattle.slots.specs.Slots.{unfilledAs, slotAt, slotsOf}
 use Rattle.calls.specs.Values.{positionalAt}
 use Rattle.findings.proofs.LawsIndex.{firstIndex-below, firstIndex-from}
 use Rattle.findings.proofs.LawsAsked.{repeatedAt, missingAt, repeats-first, required-first}
+use Rattle.findings.proofs.LawsKinds.{required-code}
 use Rattle.findings.proofs.LawsNames.{anyParameter, length-list}
 
 -- ---- a list given by its elements
@@ -47,17 +48,6 @@ unfolding positionalAt pairAt
 positional-read cells h k = refl
 
 -- ---- a required slot that is empty
-
-pub required-code : (code : ℕ) (v : Value) → isRequired (kindFor (actOf code v)) ≡ eqb code 1
-required-code zero v = refl
-required-code (suc zero) v = refl
-required-code (suc (suc zero)) v = refl
-required-code (suc (suc (suc zero))) v = refl
-required-code (suc (suc (suc (suc zero)))) v = refl
-required-code (suc (suc (suc (suc (suc zero))))) v = refl
-required-code (suc (suc (suc (suc (suc (suc zero)))))) v = refl
-required-code (suc (suc (suc (suc (suc (suc (suc zero))))))) v = refl
-required-code (suc (suc (suc (suc (suc (suc (suc (suc n)))))))) v = sym (ne-eqb (suc (suc (suc (suc (suc (suc (suc (suc n)))))))) 1 (λ (e : suc (suc (suc (suc (suc (suc (suc (suc n))))))) ≡ 1). absurd (omega arith)))
 
 empty-required : (k : ParameterKind) (b : Bool) (n : ℕ) (cells : List ℕ) (v : Value) (stars named : ℕ)
     → (isRequired k && rules.isUnfilled (cond b (rules.taken v) (rules.takenOr (sourceValue cells n) (rules.otherwise k stars named)))) ≡ (not b && (isRequired k && eqb n 0))

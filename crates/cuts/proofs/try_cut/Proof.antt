@@ -5,7 +5,7 @@ use borrow.Author.Needs.{needs}
 use Rattle.rules.specs.CanFill.{fillable}
 use Rattle.rules.specs.Collection.{collection}
 use Rattle.collector.specs.Collect.{Ends}
-use Rattle.collector.specs.CanFill.{fillingIn}
+use Rattle.can_fill.specs.CanFill.{fillingIn}
 use Rattle.cuts.proofs.LawsPlay.{outside-ended, collectedIn, fillingOf}
 use Rattle.cuts.proofs.try_cut.Statement.{statement}
 use Rattle.cuts.proofs.try_cut.Tie as tie

@@ -7,7 +7,7 @@ use Rattle.liuwdom.proofs.liuwdom_can_fill.Statement.{statement}
 use Rattle.liuwdom.proofs.liuwdom_can_fill.Tie as tie
 
 returns : tie.Need-returns
-returns c = says fillingAnswer (c .before .before .before .can-fill-with-args .ensures) (c .before .before .can-fill .ensures) (c .write .ensures)
+returns c = says fillingAnswer (c .before .before .before .can-fill-with-args .ensures) (c .before .before .filled .ensures) (c .write .ensures)
 
 pub liuwdom-can-fill-spec : {M : Type 1} → statement M
 liuwdom-can-fill-spec =

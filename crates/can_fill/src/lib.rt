@@ -19,7 +19,7 @@ ghost use Rattle.rules.specs.CanFill.{canFill, fillable};
 ghost use Rattle.builder.specs.Params.{parametersIn};
 ghost use Rattle.calls.specs.Head.{headOf};
 ghost use Rattle.findings.specs.Resolve.{Below};
-ghost use Rattle.collector.specs.CanFill.{fillingIn, isThere, writtenIn, freeFor, namedAfter, FillReady, NamesReady, NamesFilled};
+ghost use Rattle.can_fill.specs.CanFill.{fillingIn, isThere, writtenIn, freeFor, namedAfter, FillReady, NamesReady, NamesFilled};
 
 // Refused by one of questions 1 to 11, or yes or no.
 pub enum CanFill {

@@ -24,8 +24,8 @@ use Rattle.lookup.specs.declared.Finding.{Finding}
 use Rattle.lookup.specs.declared.Finding.the-variants.{At, Unknown}
 use Rattle.findings.specs.Resolved.{namedAt}
 use Rattle.findings.specs.Resolve.{Prepared}
-use Rattle.collector.specs.declared.can_fill.CanFill.{CanFill}
-use Rattle.collector.specs.declared.can_fill.CanFill.the-variants.{Refused, Answer}
+use Rattle.can_fill.specs.declared.CanFill.{CanFill}
+use Rattle.can_fill.specs.declared.CanFill.the-variants.{Refused, Answer}
 
 -- 01's outcome for the answer
 abbrev pub fillingIn : CanFill → Filling

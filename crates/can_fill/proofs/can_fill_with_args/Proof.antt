@@ -1,4 +1,4 @@
--- `collector::can_fill::can_fill_with_args` meets its contract: a refusal of 1 to 8 or of 9 to 11 is handed on, and what passed them gives
+-- `can_fill::can_fill_with_args` meets its contract: a refusal of 1 to 8 or of 9 to 11 is handed on, and what passed them gives
 -- the inner function what it requires. Assumes nothing.
 use mathlib.Core.Path.{_≡_, sym, ap, _∙_}
 use Rattle.rules.specs.Answer.{fine, none}
@@ -7,10 +7,10 @@ use Rattle.rules.specs.CanFill.{answered}
 use Rattle.cells.specs.Answer.{answerOf}
 use Rattle.calls.specs.Head.{headOf}
 use Rattle.findings.proofs.LawsPrepared.{built-fine, built-list, built-prepared}
-use Rattle.collector.proofs.LawsFillable.{fill-ready, fillable-record, fillable-call, fillable-answered}
+use Rattle.can_fill.proofs.LawsFillable.{fill-ready, fillable-record, fillable-call, fillable-answered}
 use borrow.Author.Needs.{needs}
-use Rattle.collector.proofs.can_fill.can_fill_with_args.Statement.{statement}
-use Rattle.collector.proofs.can_fill.can_fill_with_args.Tie as tie
+use Rattle.can_fill.proofs.can_fill_with_args.Statement.{statement}
+use Rattle.can_fill.proofs.can_fill_with_args.Tie as tie
 
 returns : tie.Need-returns
 returns c =

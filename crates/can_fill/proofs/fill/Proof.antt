@@ -1,4 +1,4 @@
--- `collector::can_fill::fill` meets its contract: by what was found, and for a slot by the two tests of it. Assumes nothing.
+-- `can_fill::fill` meets its contract: by what was found, and for a slot by the two tests of it. Assumes nothing.
 use mathlib.Core.Path.{_≡_, sym, ap, subst, _∙_}
 use mathlib.Core.Bool.{not, _&&_, false≢true}
 use Prim.Native.Nat.{_<_}
@@ -7,10 +7,10 @@ use borrow.Author.Tests.{lt-ltb, le-ltb, eq-eqb, ne-eqb}
 use lib.Dec.{ltb, eqb}
 use lib.ListN.{getD}
 use Rattle.findings.specs.Resolve.{Below}
-use Rattle.collector.specs.CanFill.{freeFor, namedAfter}
+use Rattle.can_fill.specs.CanFill.{freeFor, namedAfter}
 use borrow.Author.Needs.{needs}
-use Rattle.collector.proofs.can_fill.fill.Statement.{statement}
-use Rattle.collector.proofs.can_fill.fill.Tie as tie
+use Rattle.can_fill.proofs.fill.Statement.{statement}
+use Rattle.can_fill.proofs.fill.Tie as tie
 
 -- the slot that was found is one of the 64, and its two tests
 within : (c : tie.After-found) → c .found .given .0 .0 < 64

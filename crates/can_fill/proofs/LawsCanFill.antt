@@ -27,12 +27,12 @@ use Rattle.cells.specs.Text.{partAt}
 use Rattle.cells.specs.Record.{pairAt}
 use Rattle.findings.specs.Resolved.{namedAt}
 use Rattle.findings.specs.Resolve.{foundIn, foundAt, Below}
-use Rattle.collector.specs.CanFill.{isThere, bytesFrom, writtenIn, freeFor, namedAfter, FillReady, NamesReady, NamesFilled}
+use Rattle.can_fill.specs.CanFill.{isThere, bytesFrom, writtenIn, freeFor, namedAfter, FillReady, NamesReady, NamesFilled}
 use Rattle.findings.specs.Found.{firstMissing}
 use Rattle.findings.proofs.LawsEntries.{findIn-below}
 use Rattle.findings.proofs.LawsAsked.{isSome}
 use Rattle.findings.proofs.LawsNames.{anyParameter, listed-split, length-list, few-list, found-is}
-use Rattle.collector.proofs.LawsFilling.{or-true, Counted, counted-none, counted-more, counted-stop, counted-end, left-first, required-at, there-is, args-there, kwargs-there}
+use Rattle.can_fill.proofs.LawsFilling.{or-true, Counted, counted-none, counted-more, counted-stop, counted-end, left-first, required-at, there-is, args-there, kwargs-there}
 
 -- ---- the written names, one by one
 

@@ -1,4 +1,4 @@
--- `collector::can_fill::fill_names` meets its contract: the names before name k are counted, none of them against the call.
+-- `can_fill::fill_names` meets its contract: the names before name k are counted, none of them against the call.
 -- Assumes nothing.
 use mathlib.Core.Path.{_≡_, sym, ap, ap₂, subst, _∙_}
 use mathlib.Core.Bool.{true, false≢true}
@@ -12,12 +12,12 @@ use Rattle.calls.specs.Head.{headOf, namedFrom}
 use Rattle.lookup.specs.declared.Finding.{Finding}
 use Rattle.findings.specs.Resolve.{foundAt}
 use Rattle.findings.proofs.LawsNames.{one-each}
-use Rattle.collector.specs.CanFill.{isThere, bytesFrom, writtenIn, freeFor}
-use Rattle.collector.proofs.LawsFilling.{Counted}
-use Rattle.collector.proofs.LawsCanFill.{found-below, names-none, names-more, names-stop, names-end}
+use Rattle.can_fill.specs.CanFill.{isThere, bytesFrom, writtenIn, freeFor}
+use Rattle.can_fill.proofs.LawsFilling.{Counted}
+use Rattle.can_fill.proofs.LawsCanFill.{found-below, names-none, names-more, names-stop, names-end}
 use borrow.Author.Needs.{needs}
-use Rattle.collector.proofs.can_fill.fill_names.Statement.{statement}
-use Rattle.collector.proofs.can_fill.fill_names.Tie as tie
+use Rattle.can_fill.proofs.fill_names.Statement.{statement}
+use Rattle.can_fill.proofs.fill_names.Tie as tie
 
 abbrev Inv-loop : tie.InvT-loop
 Inv-loop spec cells area h next named₀ params from kwargs k₀ named k =

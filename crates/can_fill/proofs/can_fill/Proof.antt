@@ -1,4 +1,4 @@
--- `collector::can_fill::can_fill` meets its contract: surplus positionals, then the names, then the slots that are left.
+-- `can_fill::can_fill` meets its contract: surplus positionals, then the names, then the slots that are left.
 -- Assumes nothing.
 use mathlib.Core.Path.{_≡_, sym, ap, _∙_}
 use mathlib.Core.Bool.{true, not, _||_}
@@ -10,10 +10,10 @@ use lib.ListN.{length-replicate, getD-replicate}
 use Rattle.rules.specs.Parameters.{positionalCount, hasArgs}
 use Rattle.builder.specs.Params.{parametersIn}
 use Rattle.calls.specs.Head.{headOf}
-use Rattle.collector.proofs.LawsCanFill.{room-few, room-args, no-room, no-names, by-missing}
+use Rattle.can_fill.proofs.LawsCanFill.{room-few, room-args, no-room, no-names, by-missing}
 use borrow.Author.Needs.{needs}
-use Rattle.collector.proofs.can_fill.can_fill.Statement.{statement}
-use Rattle.collector.proofs.can_fill.can_fill.Tie as tie
+use Rattle.can_fill.proofs.can_fill.Statement.{statement}
+use Rattle.can_fill.proofs.can_fill.Tie as tie
 
 returns : tie.Need-returns
 returns c =

@@ -32,12 +32,11 @@ use Rattle.lookup.specs.declared.Finding.{Finding}
 use Rattle.lookup.specs.declared.Finding.the-variants.{At, Unknown}
 use Rattle.lookup.specs.Lookup.{findingOf}
 use Rattle.findings.specs.Found.{firstIndex, firstMissing}
-use Rattle.collector.specs.CanFill.{isThere, freeFor, namedAfter}
+use Rattle.can_fill.specs.CanFill.{isThere, freeFor, namedAfter}
 use Rattle.findings.proofs.LawsIndex.{firstIndex-from}
 use Rattle.findings.proofs.LawsAsked.{isSome, any-first}
 use Rattle.findings.proofs.LawsNames.{anyParameter}
-use Rattle.slots.proofs.LawsPlaced.{required-code}
-use Rattle.questions.proofs.LawsAskPlaced.{args-found, kwargs-found}
+use Rattle.findings.proofs.LawsKinds.{required-code, args-found, kwargs-found}
 use Rattle.findings.proofs.LawsResolved.{named-at, known-at, find-within}
 
 -- ---- tests over a list

@@ -1,0 +1,2 @@
+-- What can-fill promises.
+pub mod CanFill
