@@ -10,11 +10,11 @@ use calls::head::named_from;
 use calls::head::read_head;
 use cells::answer::Answer;
 use findings::found::first_missing;
+use findings::found::least;
 use findings::resolve::found_at;
 use lookup::Finding;
 ghost use mathlib.Core.Path.{_≡_};
 ghost use mathlib.Core.Bool.{true};
-ghost use Prim.Native.Nat.{min};
 ghost use Rattle.rules.specs.CanFill.{canFill, fillable};
 ghost use Rattle.builder.specs.Params.{parametersIn};
 ghost use Rattle.calls.specs.Head.{headOf};
@@ -143,14 +143,4 @@ fn is_there(index: Index) -> bool
         Index::At(_) => true,
         Index::Absent => false,
     }
-}
-
-// The smaller of two numbers.
-pub(crate) fn least(a: usize, b: usize) -> usize
-    ensures { λ r. ⌜ r ≡ min a b ⌝ }
-{
-    if a < b {
-        return a;
-    }
-    b
 }

@@ -1,7 +1,6 @@
 // Collection (01, collector): a call bound against a parameter list, and its values put on the board. All questions are asked before the
 // first cell is written, so a refusal leaves the board as it was.
 // Reworked from starlark 0.14.2, src/eval/runtime/params/spec.rs (collect_inline_impl, collect_slow), Apache-2.0.
-use crate::can_fill::least;
 use answers::answer::Collected;
 use answers::answer::Counts;
 use builder::build;
@@ -14,6 +13,7 @@ use calls::head::named_from;
 use calls::head::read_head;
 use calls::values::copy_written;
 use cells::answer::Answer;
+use findings::found::least;
 use findings::resolve::NAMED;
 use findings::resolve::Names;
 use findings::resolve::resolve_names;

@@ -3,7 +3,7 @@
 // does: cell 0 of a call record is a count, so no value stands there.
 use builder::spec::Index;
 ghost use mathlib.Core.Path.{_≡_};
-ghost use Prim.Native.Nat.{_-_, _≤_};
+ghost use Prim.Native.Nat.{_-_, _≤_, min};
 ghost use Rattle.findings.specs.Found.{firstNamed, firstMissing};
 ghost use Rattle.builder.specs.Spec.{indexOf};
 
@@ -42,4 +42,14 @@ pub fn first_missing<'a>(
         k += 1;
     }
     Index::Absent
+}
+
+// The smaller of two numbers: how many slots position fills, of so many values and so many positional slots.
+pub fn least(a: usize, b: usize) -> usize
+    ensures { λ r. ⌜ r ≡ min a b ⌝ }
+{
+    if a < b {
+        return a;
+    }
+    b
 }
