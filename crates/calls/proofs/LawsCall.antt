@@ -21,8 +21,10 @@ use Rattle.rules.proofs.LawsListing.{and-left, and-right}
 use Rattle.rules.proofs.LawsAnswer.{then-left, then-right, ask-true}
 use Rattle.calls.specs.Head.{atMost, Few, namedFrom, itemsFrom, entriesFrom}
 use Rattle.calls.specs.Keys.{askKeys}
-use Rattle.calls.specs.Runs.{valuesAt, pairsAt, Formed, keysAt, namesAt}
+use Rattle.calls.specs.declared.form.Role.the-variants as role
+use Rattle.calls.specs.Runs.{valuesAt, pairsAt, runFormed, pairsFormed, Formed, keysAt, namesAt}
 use Rattle.calls.proofs.LawsEach.{each-length}
+use Rattle.calls.proofs.LawsKeys.{written-formed, written-keys}
 
 -- ---- the counts
 
@@ -101,11 +103,11 @@ module _ (cells : List ℕ) (h : Head) (read : h ≡ readHead cells) where
   kinds-by = simp (read, each-length)
 
   pub parts-by : (area : List ℕ) → partsWellFormed area (readCall cells)
-      ≡ (all (wellFormedArgument area) (valuesAt cells headWidth (h .p))
-      && all (wellFormedPair area) (pairsAt cells (namedFrom h) (h .n))
-      && all (wellFormedArgument area) (valuesAt cells (itemsFrom h) (h .s))
-      && all (wellFormedEntry area) (pairsAt cells (entriesFrom h) (h .d)))
-  unfolding partsWellFormed
+      ≡ (runFormed role.Argument area cells headWidth valueWidth (h .p)
+      && pairsFormed role.Name area cells (namedFrom h) (h .n)
+      && runFormed role.Argument area cells (itemsFrom h) valueWidth (h .s)
+      && pairsFormed role.Key area cells (entriesFrom h) (h .d))
+  unfolding partsWellFormed wellFormedPair wellFormedEntry
   parts-by area = rw (call-positionals, call-named, call-items, call-entries)
 
   pub entries-by : (area : List ℕ) → entriesDiffer area (readCall cells) ≡ keysDiffer (keysAt area cells (entriesFrom h) (h .d))
@@ -150,6 +152,13 @@ module _ (cells : List ℕ) (h : Head) (read : h ≡ readHead cells) where
     module _ (area : List ℕ) (eleven : partsWellFormed area (readCall cells) ≡ true) where
       pub formed-named : Formed (wellFormedPair area) cells (namedFrom h) (h .n)
       formed-named = record { within = named-within; formed = rw (← call-named) (parts-named area (readCall cells) eleven) }
+
+      -- 13, as 12 of the written pairs
+      pub formed-names : Formed (wellFormedEntry area) cells (namedFrom h) (h .n)
+      formed-names = written-formed area cells (namedFrom h) (h .n) formed-named
+
+      pub names-as-keys : namesDiffer area (readCall cells) ≡ keysDiffer (keysAt area cells (namedFrom h) (h .n))
+      names-as-keys = names-by area ∙ sym (written-keys area cells (namedFrom h) (h .n) formed-named)
 
       pub formed-entries : Formed (wellFormedEntry area) cells (entriesFrom h) (h .d)
       formed-entries = record { within = entries-within; formed = rw (← call-entries) (parts-entries area (readCall cells) eleven) }

@@ -1,7 +1,6 @@
 -- Runs of equal things in a record (01, cells, texts and records), which `rules` reads by consuming cells, at the indices of the
--- cells. In this order: how many a run has, its first and the rest, the one at an index, a run mapped; a question of a run by its
--- first thing, for a loop that walks the run and stops at the first thing against it; a test of all at one index; a run of pairs that
--- are well formed; and two runs, one after the other, at the places that `inRuns` gives. Assumes nothing.
+-- cells. In this order: how many a run has, its first and the rest, the one at an index, a run mapped, a run in two parts; the keys of a
+-- run of entries; a run of pairs that are well formed; and two runs, one after the other, at the places that `inRuns` gives. Assumes nothing.
 use mathlib.Core.Path.{_≡_, refl, sym, ap, _∙_, subst}
 use mathlib.Core.Bool.{Bool, true, false, cond, _&&_}
 use mathlib.Core.List.{List, [], _∷_, _++_, map}
@@ -14,10 +13,11 @@ use lib.Seq.{drop-drop, getD-append-add}
 use borrow.Author.Tests.{lt-ltb, le-ltb, ltb-true, ltb-false}
 use Rattle.rules.specs.Listing.{all}
 use Rattle.rules.specs.Cells.{readEach}
-use Rattle.rules.specs.CallRecord.{Pair, pairWidth, readPair}
-use Rattle.rules.proofs.LawsListing.{and-left, and-right}
+use Rattle.rules.specs.CallRecord.{Pair, pairWidth, readPair, keyIn}
+use Rattle.rules.proofs.LawsListing.{and-left, and-right, map-append}
+use Rattle.cells.specs.Record.{pairAt}
 use Rattle.calls.specs.Places.{inRuns}
-use Rattle.calls.specs.Runs.{pairsAt, Formed}
+use Rattle.calls.specs.Runs.{pairsAt, Formed, keyThere, keysOf, keysAt}
 
 module _ {X : Type 0} (width : ℕ) (read : List ℕ → X) where
   pub each-length : (count : ℕ) (cells : List ℕ) → length (readEach width read count cells) ≡ count
@@ -53,34 +53,33 @@ pub each-map : {X Y : Type 0} (width : ℕ) (read : List ℕ → X) (f : X → Y
 each-map width read f zero cells = refl
 each-map {Y = Y} width read f (suc count) cells = ap {B = List Y} (λ r. f (read cells) ∷ r) (each-map width read f count (drop width cells))
 
--- ---- a question of a run
+-- a run in two parts
+pub each-split : {X : Type 0} (width : ℕ) (read : List ℕ → X) (cells : List ℕ) (at k n : ℕ)
+    → readEach width read (k + n) (drop at cells) ≡ readEach width read k (drop at cells) ++ readEach width read n (drop (at + width * k) cells)
+each-split width read cells at zero n =
+    let e : at + width * 0 ≡ at = omega arith in
+    let z : 0 + n ≡ n = omega arith in
+    rw (e, z)
+each-split {X = X} width read cells at (suc k) n =
+    let m : at + width * suc k ≡ at + width + width * k = ap (λ (j : ℕ). at + j) (mul-suc width k) ∙ swap (width * k) in
+    let s : suc k + n ≡ suc (k + n) = omega arith in
+    rw (s, drop-drop width at cells, m) (ap {B = List X} (λ r. read (drop at cells) ∷ r) (each-split width read cells (at + width) k n))
+  where
+    swap : (n : ℕ) → at + (n + width) ≡ at + width + n
+    swap n = omega arith
 
--- `holds` is answered of a list by `first` of its first thing and the rest, and then by the rest
-module _ {X : Type 0} (width : ℕ) (read : List ℕ → X) (first : X → List X → Bool) (holds : List X → Bool)
-    (step : (x : X) (xs : List X) → holds (x ∷ xs) ≡ (first x xs && holds xs))
-    (cells : List ℕ) (at left : ℕ) (some : 0 < left) where
-  each-step : holds (readEach width read left (drop at cells))
-      ≡ (first (read (drop at cells)) (readEach width read (left - 1) (drop (at + width) cells)) && holds (readEach width read (left - 1) (drop (at + width) cells)))
-  each-step =
-      ap holds (each-next width read cells at left some)
-      ∙ step (read (drop at cells)) (readEach width read (left - 1) (drop (at + width) cells))
+-- ---- the keys of a run
 
-  pub each-passes : first (read (drop at cells)) (readEach width read (left - 1) (drop (at + width) cells)) ≡ true
-      → holds (readEach width read left (drop at cells)) ≡ holds (readEach width read (left - 1) (drop (at + width) cells))
-  each-passes e = each-step ∙ ap (λ b. b && holds (readEach width read (left - 1) (drop (at + width) cells))) e
+pub keys-next : (area cells : List ℕ) (at left : ℕ) → 0 < left
+    → keysAt area cells at left ≡ keyThere area cells at ∷ keysAt area cells (at + pairWidth) (left - 1)
+unfolding readPair pairAt
+keys-next area cells at left some = ap (keysOf area) (each-next pairWidth readPair cells at left some)
 
-  pub each-fails : first (read (drop at cells)) (readEach width read (left - 1) (drop (at + width) cells)) ≡ false
-      → holds (readEach width read left (drop at cells)) ≡ false
-  each-fails e = each-step ∙ ap (λ b. b && holds (readEach width read (left - 1) (drop (at + width) cells))) e
-
--- a test of each thing by itself
-module _ {X : Type 0} (width : ℕ) (read : List ℕ → X) (test : X → Bool) (cells : List ℕ) (at left : ℕ) (some : 0 < left) where
-  pub all-passes : test (read (drop at cells)) ≡ true
-      → all test (readEach width read left (drop at cells)) ≡ all test (readEach width read (left - 1) (drop (at + width) cells))
-  all-passes e = each-passes width read (λ x xs. test x) (all test) (λ x xs. refl) cells at left some e
-
-  pub all-fails : test (read (drop at cells)) ≡ false → all test (readEach width read left (drop at cells)) ≡ false
-  all-fails e = each-fails width read (λ x xs. test x) (all test) (λ x xs. refl) cells at left some e
+pub keys-split : (area cells : List ℕ) (at k n : ℕ)
+    → keysAt area cells at (k + n) ≡ keysAt area cells at k ++ keysAt area cells (at + pairWidth * k) n
+keys-split area cells at k n =
+    ap (keysOf area) (each-split pairWidth readPair cells at k n)
+    ∙ map-append (λ p. keyIn area (p .key)) (pairsAt cells at k) (pairsAt cells (at + pairWidth * k) n)
 
 -- ---- pairs that are well formed
 

@@ -1,31 +1,30 @@
 -- Keys and names that are well formed (01, questions 11 to 13), as the code reads them: that the bytes of such a text are those that
--- `rules` compares; where a name's payload stands, and that names of different lengths differ; a name held against the first of some
--- names; what reading a key answers, beside the key that `rules` has there; and that two keys that were read are equal when `rules`
--- says so. Assumes nothing.
-use mathlib.Core.Path.{_≡_, refl, sym, ap, _∙_}
+-- `rules` compares; what reading a key answers, beside the key that `rules` has there; that two keys that were read are equal when
+-- `rules` says so; and that a written name is a key that is a text, so that 13 is 12 asked of the written pairs. Assumes nothing.
+use mathlib.Core.Path.{_≡_, refl, sym, ap, ap₂, _∙_}
 use mathlib.Core.Bool.{Bool, true, false, not, _&&_, _||_}
-use mathlib.Core.List.{List, _∷_}
-use Prim.Native.Nat.{ℕ, _+_, _≤_, _<_, _%_}
-use native.Mathlib.Omega.{arith}
-use lib.Dec.{eqb, leb, ltb}
-use lib.ListN.{length, getD, length-take, length-drop, List·getD-eq-default}
+use mathlib.Core.List.{List, [], _∷_, map}
+use Prim.Native.Nat.{ℕ, _+_, _-_, _<_, _≤_}
+use lib.Dec.{eqb, leb}
+use lib.ListN.{drop, getD}
 use mir.Syntax.{w64}
 use mir.Val.{Fits, toZ}
 use mir.ValLaws.{ofZ-toZ}
-use borrow.Author.Tests.{eqb-true, leb-true, ltb-true, ltb-false}
-use Rattle.rules.specs.Text.{startOf, sizeOf, bytesAt, inside, isText, Text, textIn, sameBytes, among}
-use Rattle.rules.specs.Value.{Value, callText, wellFormedName, wellFormedKey}
-use Rattle.rules.specs.CallRecord.{word, number, keyIn}
-use Rattle.rules.specs.CallQuestions.{sameKey}
-use Rattle.rules.proofs.LawsListing.{and-left, and-right}
-use Rattle.rules.proofs.LawsText.{payload-of-halves}
+use borrow.Author.Tests.{eqb-true}
+use Rattle.rules.specs.Text.{sizeOf, bytesAt, inside, isText, Text, textIn, sameBytes, among, differ}
+use Rattle.rules.specs.Value.{Value, callText, wellFormedArgument, wellFormedName, wellFormedKey}
+use Rattle.rules.specs.CallRecord.{Pair, pairWidth, readPair, word, number, keyIn, namedIn}
+use Rattle.rules.specs.CallQuestions.{wellFormedPair, wellFormedEntry, sameKey, keysDiffer}
+use Rattle.rules.proofs.LawsListing.{and-left, and-right, and-both, all-imp, map-where, map-map}
+use Rattle.rules.proofs.LawsText.{payload-of-halves, isText-weaker}
 use Rattle.cells.specs.Text.{textOf, partAt}
 use Rattle.cells.specs.Value.{readKey}
-use Rattle.cells.specs.Record.{pairAt}
-use Rattle.cells.proofs.LawsText.{sameBytes-length}
+use Rattle.cells.specs.Record.{pairAt, keyAt}
 use Rattle.cells.proofs.LawsRecord.{pairAt-is}
 use Rattle.cells.specs.declared.value.ReadKey.the-variants.{Word, Number}
+use Rattle.calls.specs.Runs.{pairsAt, Formed, keyThere, keysOf, keysAt, newKey, namesAt}
 use Rattle.calls.specs.Keys.{sameRead}
+use Rattle.calls.proofs.LawsEach.{each-none, keys-next}
 
 -- ---- the bytes of a text
 
@@ -34,81 +33,9 @@ unfolding isText partAt
 text-part least area payload e =
     rw (and-left (inside area payload) (leb least (sizeOf payload)) (and-left (inside area payload && leb least (sizeOf payload)) (leb (sizeOf payload) 64) e))
 
-pub name-part : (area : List ℕ) (v : Value) → wellFormedName area v ≡ true → partAt area (v .payload) ≡ bytesAt area (v .payload)
-unfolding wellFormedName
-name-part area v e = text-part 1 area (v .payload) (and-right (eqb (v .kind) callText) (isText 1 area (v .payload)) e)
-
 -- a payload of 64-bit cells has 64 bits
-pub payload-fits : (cells : List ℕ) (at : ℕ) → Fits w64 (getD cells (at + 1) 0) → Fits w64 (pairAt cells at .payload)
+payload-fits : (cells : List ℕ) (at : ℕ) → Fits w64 (getD cells (at + 1) 0) → Fits w64 (pairAt cells at .payload)
 payload-fits cells at f = rw (pairAt-is cells at) f
-
--- ---- the payload of a name
-
--- a name's bytes lie inside the area, and it has as many as its payload says, at least one
-module _ (area : List ℕ) (v : Value) (e : wellFormedName area v ≡ true) where
-  name-inside : (inside area (v .payload) && leb 1 (sizeOf (v .payload))) ≡ true
-  unfolding wellFormedName isText
-  name-inside =
-      and-left (inside area (v .payload) && leb 1 (sizeOf (v .payload))) (leb (sizeOf (v .payload)) 64) (and-right (eqb (v .kind) callText) (isText 1 area (v .payload)) e)
-
-  name-some : 1 ≤ sizeOf (v .payload)
-  name-some = leb-true 1 (sizeOf (v .payload)) (and-right (inside area (v .payload)) (leb 1 (sizeOf (v .payload))) name-inside)
-
-  name-end : startOf (v .payload) + sizeOf (v .payload) ≤ length area
-  unfolding inside
-  name-end =
-      leb-true (startOf (v .payload) + sizeOf (v .payload)) (length area)
-      (and-right (leb (startOf (v .payload)) 65535) (leb (startOf (v .payload) + sizeOf (v .payload)) (length area))
-      (and-left (inside area (v .payload)) (leb 1 (sizeOf (v .payload))) name-inside))
-
-  name-size : length (bytesAt area (v .payload)) ≡ sizeOf (v .payload)
-  unfolding bytesAt
-  name-size = simp (length-take, length-drop) (omega (arith, name-end))
-
-payload-at : (cells : List ℕ) (at : ℕ) → pairAt cells at .payload ≡ getD cells (at + 1) 0
-payload-at cells at = rw (pairAt-is cells at)
-
-module _ (area cells : List ℕ) (at : ℕ) (e : wellFormedName area (pairAt cells at) ≡ true) where
-  -- it lies inside the cells: past their end it would be 0, which has no bytes
-  pub name-within : at + 1 < length cells
-  unfolding sizeOf
-  name-within = go (ltb (at + 1) (length cells)) refl
-    where
-      go : (b : Bool) → ltb (at + 1) (length cells) ≡ b → at + 1 < length cells
-      go true q = ltb-true (at + 1) (length cells) q
-      go false q =
-          let zero : getD cells (at + 1) 0 ≡ 0 = List·getD-eq-default cells 0 {n = at + 1} (ltb-false (at + 1) (length cells) q) in
-          absurd (omega (arith, name-some area (pairAt cells at) e, payload-at cells at))
-
-  pub name-inside-at : inside area (getD cells (at + 1) 0) ≡ true
-  name-inside-at = ap (inside area) (sym (payload-at cells at)) ∙ and-left (inside area (pairAt cells at .payload)) (leb 1 (sizeOf (pairAt cells at .payload))) (name-inside area (pairAt cells at) e)
-
-  pub name-there : bytesAt area (getD cells (at + 1) 0) ≡ bytesAt area (pairAt cells at .payload)
-  name-there = ap (bytesAt area) (sym (payload-at cells at))
-
-  pub name-bytes : partAt area (getD cells (at + 1) 0) ≡ bytesAt area (pairAt cells at .payload)
-  name-bytes = ap (partAt area) (sym (payload-at cells at)) ∙ name-part area (pairAt cells at) e
-
-  name-length : length (bytesAt area (pairAt cells at .payload)) ≡ getD cells (at + 1) 0 % 256
-  unfolding sizeOf
-  name-length = name-size area (pairAt cells at) e ∙ ap sizeOf (payload-at cells at)
-
--- names of different lengths differ
-pub names-apart : (area cells : List ℕ) (a b : ℕ) → wellFormedName area (pairAt cells a) ≡ true → wellFormedName area (pairAt cells b) ≡ true
-    → (getD cells (a + 1) 0 % 256 ≡ getD cells (b + 1) 0 % 256 → ⊥)
-    → sameBytes (bytesAt area (pairAt cells a .payload)) (bytesAt area (pairAt cells b .payload)) ≡ false
-names-apart area cells a b d e n =
-    sameBytes-length (bytesAt area (pairAt cells a .payload)) (bytesAt area (pairAt cells b .payload))
-    (λ q. n (sym (name-length area cells a d) ∙ q ∙ name-length area cells b e))
-
--- ---- a name among names
-
-pub among-first : (bytes : List ℕ) (t : Text) (ts : List Text) → not (among bytes (t ∷ ts)) ≡ (not (sameBytes bytes (t .bytes)) && not (among bytes ts))
-among-first bytes t ts = go (sameBytes bytes (t .bytes))
-  where
-    go : (b : Bool) → not (b || among bytes ts) ≡ (not b && not (among bytes ts))
-    go true = refl
-    go false = refl
 
 -- ---- a key that was read
 
@@ -145,6 +72,72 @@ seen-same area v w f g (as-number r k) (as-word s l d) = rw (r, s, k, l)
 seen-same area v w f g (as-number r k) (as-number s l) =
     rw (r, s, k, l, ofZ-toZ w64 (v .payload) f, ofZ-toZ w64 (w .payload) g)
 
-pub sameRead-keys : (area : List ℕ) (v w : Value) → Fits w64 (v .payload) → Fits w64 (w .payload) → wellFormedKey area v ≡ true → wellFormedKey area w ≡ true
-    → sameRead area (readKey area (v .kind) (v .payload)) (readKey area (w .kind) (w .payload)) ≡ sameKey (keyIn area v) (keyIn area w)
-sameRead-keys area v w f g d e = seen-same area v w f g (seen area v d) (seen area w e)
+-- the keys that stand at two indices, as they were read
+pub same-keys : (area cells : List ℕ) → ((i : ℕ) → Fits w64 (getD cells i 0)) → (a b : ℕ) → wellFormedKey area (pairAt cells a) ≡ true → wellFormedKey area (pairAt cells b) ≡ true
+    → sameRead area (keyAt area cells a) (keyAt area cells b) ≡ sameKey (keyThere area cells a) (keyThere area cells b)
+unfolding keyAt
+same-keys area cells fits a b d e =
+    seen-same area (pairAt cells a) (pairAt cells b) (payload-fits cells a (fits (a + 1))) (payload-fits cells b (fits (b + 1))) (seen area (pairAt cells a) d) (seen area (pairAt cells b) e)
+
+-- is the key at an index none of those of a run?
+abbrev pub newAt : List ℕ → List ℕ → ℕ → ℕ → ℕ → Bool
+newAt area cells key at left = newKey (keyThere area cells key) (keysAt area cells at left)
+
+-- it is held against the first of the run: it is none of the run's if it is none of the rest, or it is one of them
+module _ (area cells : List ℕ) (key at left : ℕ) (some : 0 < left) where
+  pub new-passes : sameKey (keyThere area cells key) (keyThere area cells at) ≡ false → newAt area cells key at left ≡ newAt area cells key (at + pairWidth) (left - 1)
+  new-passes e = ap (newKey (keyThere area cells key)) (keys-next area cells at left some) ∙ rw e
+
+  pub new-fails : sameKey (keyThere area cells key) (keyThere area cells at) ≡ true → newAt area cells key at left ≡ false
+  new-fails e = ap (newKey (keyThere area cells key)) (keys-next area cells at left some) ∙ rw e
+
+pub new-end : (area cells : List ℕ) (key at left : ℕ) → left ≤ 0 → newAt area cells key at left ≡ true
+new-end area cells key at left h = ap (λ ps. newKey (keyThere area cells key) (keysOf area ps)) (each-none pairWidth readPair (drop at cells) left h)
+
+-- ---- a written name is a key that is a text
+
+name-key : (area : List ℕ) (v : Value) → wellFormedName area v ≡ true → wellFormedKey area v ≡ true
+unfolding wellFormedName wellFormedKey callText
+name-key area v e =
+    rw (eqb-true (v .kind) 6 (and-left (eqb (v .kind) 6) (isText 1 area (v .payload)) e))
+    (isText-weaker area (v .payload) (and-right (eqb (v .kind) 6) (isText 1 area (v .payload)) e))
+
+module _ (area : List ℕ) (p : Pair) (e : wellFormedPair area p ≡ true) where
+  written-name : wellFormedName area (p .key) ≡ true
+  unfolding wellFormedPair
+  written-name = and-left (wellFormedName area (p .key)) (wellFormedArgument area (p .value)) e
+
+  written-entry : wellFormedEntry area p ≡ true
+  unfolding wellFormedPair wellFormedEntry
+  written-entry =
+      and-both (wellFormedKey area (p .key)) (wellFormedArgument area (p .value)) (name-key area (p .key) written-name)
+      (and-right (wellFormedName area (p .key)) (wellFormedArgument area (p .value)) e)
+
+  written-word : keyIn area (p .key) ≡ word (namedIn area p .name)
+  unfolding wellFormedName keyIn namedIn
+  written-word = rw (and-left (eqb (p .key .kind) callText) (isText 1 area (p .key .payload)) written-name)
+
+-- texts as keys differ just where they differ as names
+none-of : (b x y : Bool) → x ≡ not y → (not b && x) ≡ not (b || y)
+none-of true x y e = refl
+none-of false x y e = e
+
+word-new : (t : Text) (us : List Text) → newKey (word t) (map word us) ≡ not (among (t .bytes) us)
+word-new t [] = refl
+word-new t (u ∷ us) = none-of (sameBytes (t .bytes) (u .bytes)) (newKey (word t) (map word us)) (among (t .bytes) us) (word-new t us)
+
+words-differ : (ts : List Text) → keysDiffer (map word ts) ≡ differ ts
+words-differ [] = refl
+words-differ (t ∷ ts) = ap₂ (λ a b. a && b) (word-new t ts) (words-differ ts)
+
+-- so written pairs that are well formed are well-formed entries, and no name of theirs stands twice just where no key does
+module _ (area cells : List ℕ) (from count : ℕ) (h : Formed (wellFormedPair area) cells from count) where
+  pub written-formed : Formed (wellFormedEntry area) cells from count
+  written-formed = record { within = h .within; formed = all-imp (wellFormedPair area) (wellFormedEntry area) (written-entry area) (pairsAt cells from count) (h .formed) }
+
+  pub written-keys : keysDiffer (keysAt area cells from count) ≡ differ (namesAt area cells from count)
+  written-keys =
+      ap keysDiffer
+      (map-where (λ p. keyIn area (p .key)) (λ p. word (namedIn area p .name)) (wellFormedPair area) (written-word area) (pairsAt cells from count) (h .formed)
+      ∙ sym (map-map (λ p. namedIn area p .name) word (pairsAt cells from count)))
+      ∙ words-differ (namesAt area cells from count)

@@ -2,16 +2,16 @@
 -- names, the entries, and N where every key is a text. Then what 11 says of the names and keys that stand there, and how far into the
 -- record that is. The call is `callOf cells area`, and `h` the head that was read. Assumes nothing.
 use mathlib.Core.Path.{_≡_, refl, sym, ap, subst, _∙_}
-use mathlib.Core.Bool.{Bool, true, false, cond, not, _&&_, _||_}
+use mathlib.Core.Bool.{Bool, true, false, cond, not}
 use mathlib.Core.List.{List, []}
 use Prim.Native.Nat.{ℕ, _+_, _-_, _≤_, _<_}
 use native.Mathlib.Nat.{zero-add}
 use native.Mathlib.Omega.{arith}
 use borrow.Author.Tests.{eqb-true, ltb-true, ltb-false}
-use lib.Dec.{eqb, ltb, leb}
+use lib.Dec.{eqb, ltb}
 use lib.ListN.{length}
 use Rattle.rules.specs.Listing.{all}
-use Rattle.rules.specs.Text.{sizeOf, inside, isText, textIn}
+use Rattle.rules.specs.Text.{inside, isText, textIn}
 use Rattle.rules.specs.Value.{Value, noValue, valueWidth, callText, wellFormedName, wellFormedKey}
 use Rattle.rules.specs.Answer.{fine}
 use Rattle.rules.specs.CallRecord.{Head, Named, Entry, word, number, headWidth, pairWidth, readHead, readPair, readCall, callLength, keyIn, namedIn, entryIn, callIn, entriesOf, positionalsOf, namedOf}
@@ -29,15 +29,11 @@ use Rattle.cells.proofs.LawsListed.{elements, all-at}
 use Rattle.calls.specs.Values.{positionalAt, valuesIn}
 use Rattle.calls.specs.Named.{pairNamed, pairEntry, namesIn, entriesIn}
 use Rattle.calls.proofs.LawsForm.{pair-name, entry-key}
+use Rattle.calls.proofs.LawsKeys.{text-inside, key-text}
 use Rattle.calls.proofs.LawsCall.{lengths-few, lengths-length, form-lengths, form-kinds, form-parts, call-form}
 use Rattle.calls.proofs.LawsPlaces.{positionals-length, named-length, entries-length, entries-run, star-passes, double-passes, positional-at, named-at, entry-at, pair-within, named-formed, entry-formed, N-length, N-at}
 
 -- ---- a text that is well formed
-
-isText-inside : (least : ℕ) (area : List ℕ) (payload : ℕ) → isText least area payload ≡ true → inside area payload ≡ true
-unfolding isText
-isText-inside least area payload e =
-    and-left (inside area payload) (leb least (sizeOf payload)) (and-left (inside area payload && leb least (sizeOf payload)) (leb (sizeOf payload) 64) e)
 
 -- a name is a text and lies inside the area
 pub name-text : (area : List ℕ) (v : Value) → wellFormedName area v ≡ true → v .kind ≡ callText
@@ -46,16 +42,11 @@ name-text area v e = eqb-true (v .kind) callText (and-left (eqb (v .kind) callTe
 
 pub name-inside : (area : List ℕ) (v : Value) → wellFormedName area v ≡ true → inside area (v .payload) ≡ true
 unfolding wellFormedName
-name-inside area v e = isText-inside 1 area (v .payload) (and-right (eqb (v .kind) callText) (isText 1 area (v .payload)) e)
+name-inside area v e = text-inside 1 area (v .payload) (and-right (eqb (v .kind) callText) (isText 1 area (v .payload)) e)
 
 -- a key that is a text lies inside the area
 pub key-inside : (area : List ℕ) (v : Value) → wellFormedKey area v ≡ true → eqb (v .kind) callText ≡ true → inside area (v .payload) ≡ true
-unfolding wellFormedKey callText
-key-inside area v e k = go (eqb (v .kind) 3) refl e
-  where
-    go : (b : Bool) → eqb (v .kind) 3 ≡ b → (b || eqb (v .kind) 6 && isText 0 area (v .payload)) ≡ true → inside area (v .payload) ≡ true
-    go true p f = absurd (omega (arith, eqb-true (v .kind) 3 p, eqb-true (v .kind) 6 k))
-    go false p f = isText-inside 0 area (v .payload) (and-right (eqb (v .kind) 6) (isText 0 area (v .payload)) f)
+key-inside area v e k = text-inside 0 area (v .payload) (key-text area v k e)
 
 -- is a key a text? Its kind says so
 pub word-text : (area : List ℕ) (v : Value) → isWord (keyIn area v) ≡ eqb (v .kind) callText

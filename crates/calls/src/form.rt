@@ -16,14 +16,12 @@ use cells::value::read_key;
 use cells::value::read_name;
 ghost use mathlib.Core.Path.{_≡_};
 ghost use mathlib.Core.Bool.{true};
-ghost use Prim.Native.Nat.{_+_, _*_, _≤_};
-ghost use lib.ListN.{length, drop};
-ghost use Rattle.rules.specs.Listing.{all};
-ghost use Rattle.rules.specs.Value.{valueWidth, wellFormedArgument};
-ghost use Rattle.rules.specs.CallRecord.{pairWidth, readPair, readCall};
-ghost use Rattle.rules.specs.CallQuestions.{lengthsRight, kindRight, kindsRight, wellFormedPair, wellFormedEntry, partsWellFormed};
-ghost use Rattle.cells.specs.Record.{pairAt};
-ghost use Rattle.calls.specs.Runs.{valuesAt, pairsAt};
+ghost use Prim.Native.Nat.{ℕ, _+_, _*_, _<_, _≤_};
+ghost use lib.ListN.{length};
+ghost use Rattle.rules.specs.CallRecord.{pairWidth, readCall};
+ghost use Rattle.rules.specs.CallQuestions.{lengthsRight, kindRight, kindsRight, partsWellFormed};
+ghost use Rattle.cells.specs.Value.{value};
+ghost use Rattle.calls.specs.Runs.{formedAs, runFormed, pairsFormed};
 
 // 9. The counts are looked at before they are added up.
 pub fn lengths_right(cells: &[u64]) -> bool
@@ -59,104 +57,82 @@ pub fn kinds_right(cells: &[u64]) -> bool
     kind_right(h.double_kind, h.d)
 }
 
+// What the two cells of a value, a name or a key are asked to be.
+pub(crate) enum Role {
+    Argument,
+    Name,
+    Key,
+}
+
 // 11.
 pub(crate) fn parts_formed(cells: &[u64], area: &[u8]) -> bool
     requires { ⌜ lengthsRight 64 (now cells) ≡ true ⌝ }
     ensures { λ r. ⌜ r ≡ partsWellFormed (now (area .entry)) (readCall (now (cells .entry))) ⌝ }
 {
     let h = read_head(cells);
-    if !values_formed(cells, area, HEAD, h.p) {
+    if !run_formed(Role::Argument, cells, area, HEAD, VALUE, h.p) {
         return false;
     }
-    if !pairs_formed(cells, area, named_from(h), h.n) {
+    if !pairs_formed(Role::Name, cells, area, named_from(h), h.n) {
         return false;
     }
-    if !values_formed(cells, area, items_from(h), h.s) {
+    if !run_formed(Role::Argument, cells, area, items_from(h), VALUE, h.s) {
         return false;
     }
-    entries_formed(cells, area, entries_from(h), h.d)
+    pairs_formed(Role::Key, cells, area, entries_from(h), h.d)
 }
 
-// Are the `count` values from `from` on well formed?
-fn values_formed(cells: &[u64], area: &[u8], from: usize, count: usize) -> bool
-    requires { ⌜ from + valueWidth * count ≤ length (now cells) ⌝ }
-    ensures { λ r. ⌜ r ≡ all (wellFormedArgument (now (area .entry))) (valuesAt (now (cells .entry)) from count) ⌝ }
-{
-    let mut at = from;
-    let mut left = count;
-    while 0 < left {
-        if !value_formed(cells, area, at) {
-            return false;
-        }
-        at += VALUE;
-        left -= 1;
-    }
-    true
-}
-
-// The same of written pairs.
-fn pairs_formed(cells: &[u64], area: &[u8], from: usize, count: usize) -> bool
+// 11, of the `count` pairs from `from` on: names or keys, as `role` says, each with a value behind it.
+fn pairs_formed(role: Role, cells: &[u64], area: &[u8], from: usize, count: usize) -> bool
     requires { ⌜ from + pairWidth * count ≤ length (now cells) ⌝ }
-    ensures { λ r. ⌜ r ≡ all (wellFormedPair (now (area .entry))) (pairsAt (now (cells .entry)) from count) ⌝ }
+    ensures { λ r. ⌜ r ≡ pairsFormed role (now (area .entry)) (now (cells .entry)) from count ⌝ }
 {
-    let mut at = from;
-    let mut left = count;
-    while 0 < left {
-        if !pair_formed(cells, area, at) {
+    if !run_formed(role, cells, area, from, PAIR, count) {
+        return false;
+    }
+    run_formed(Role::Argument, cells, area, from + VALUE, PAIR, count)
+}
+
+// 11, of `count` values, names or keys that begin `width` cells apart, from `from` on.
+fn run_formed(
+    role: Role,
+    cells: &[u64],
+    area: &[u8],
+    from: usize,
+    width: usize,
+    count: usize,
+) -> bool
+    requires { ⌜ ((k : ℕ) → k < count → from + width * k + 2 ≤ length (now cells)) ⌝ }
+    ensures { λ r. ⌜ r ≡ runFormed role (now (area .entry)) (now (cells .entry)) from width count ⌝ }
+{
+    let mut k = 0;
+    while k < count {
+        let at = from + width * k;
+        if !formed_as(role, area, cells[at], cells[at + 1]) {
             return false;
         }
-        at += PAIR;
-        left -= 1;
+        k += 1;
     }
     true
 }
 
-// The same of entries.
-fn entries_formed(cells: &[u64], area: &[u8], from: usize, count: usize) -> bool
-    requires { ⌜ from + pairWidth * count ≤ length (now cells) ⌝ }
-    ensures { λ r. ⌜ r ≡ all (wellFormedEntry (now (area .entry))) (pairsAt (now (cells .entry)) from count) ⌝ }
+// Two cells are well formed if reading them gives something.
+fn formed_as(role: Role, area: &[u8], kind: u64, payload: u64) -> bool
+    ensures { λ r. ⌜ r ≡ formedAs role (now (area .entry)) (value kind payload) ⌝ }
 {
-    let mut at = from;
-    let mut left = count;
-    while 0 < left {
-        if !entry_formed(cells, area, at) {
-            return false;
-        }
-        at += PAIR;
-        left -= 1;
-    }
-    true
-}
-
-fn value_formed(cells: &[u64], area: &[u8], at: usize) -> bool
-    requires { ⌜ at + valueWidth ≤ length (now cells) ⌝ }
-    ensures { λ r. ⌜ r ≡ wellFormedArgument (now (area .entry)) (pairAt (now (cells .entry)) at) ⌝ }
-{
-    match read_argument(area, cells[at], cells[at + 1]) {
-        ReadValue::Is(_) => true,
-        ReadValue::Not => false,
-    }
-}
-
-// A written pair: a name, and a value behind it.
-fn pair_formed(cells: &[u64], area: &[u8], at: usize) -> bool
-    requires { ⌜ at + pairWidth ≤ length (now cells) ⌝ }
-    ensures { λ r. ⌜ r ≡ wellFormedPair (now (area .entry)) (readPair (drop at (now (cells .entry)))) ⌝ }
-{
-    match read_name(area, cells[at], cells[at + 1]) {
-        ReadText::Is(_) => value_formed(cells, area, at + VALUE),
-        ReadText::Not => false,
-    }
-}
-
-// An entry: a key, and a value behind it.
-fn entry_formed(cells: &[u64], area: &[u8], at: usize) -> bool
-    requires { ⌜ at + pairWidth ≤ length (now cells) ⌝ }
-    ensures { λ r. ⌜ r ≡ wellFormedEntry (now (area .entry)) (readPair (drop at (now (cells .entry)))) ⌝ }
-{
-    match read_key(area, cells[at], cells[at + 1]) {
-        ReadKey::Word(_) => value_formed(cells, area, at + VALUE),
-        ReadKey::Number(_) => value_formed(cells, area, at + VALUE),
-        ReadKey::Not => false,
+    match role {
+        Role::Argument => match read_argument(area, kind, payload) {
+            ReadValue::Is(_) => true,
+            ReadValue::Not => false,
+        },
+        Role::Name => match read_name(area, kind, payload) {
+            ReadText::Is(_) => true,
+            ReadText::Not => false,
+        },
+        Role::Key => match read_key(area, kind, payload) {
+            ReadKey::Word(_) => true,
+            ReadKey::Number(_) => true,
+            ReadKey::Not => false,
+        },
     }
 }

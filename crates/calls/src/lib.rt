@@ -1,7 +1,6 @@
 // The call record (01, questions 9 to 13): the questions put to arbitrary cells, and where the values of P and the pairs of N
 // stand in a record that passes them.
 use crate::differ::keys_differ;
-use crate::differ::names_differ;
 use crate::form::kinds_right;
 use crate::form::lengths_right;
 use crate::form::parts_formed;
@@ -70,7 +69,7 @@ pub fn ask_call(cells: &[u64], area: &[u8]) -> Answer
         return keys;
     }
     let h = read_head(cells);
-    if !names_differ(cells, area, named_from(h), h.n) {
+    if !keys_differ(cells, area, named_from(h), h.n) {
         return Answer::Refused(13);
     }
     Answer::Fine

@@ -60,11 +60,11 @@ pub fn copy_named(cells: &[u64], from: usize, count: usize, at: usize, board: &m
     let mut k = 0;
     while k < count {
         let value = from + PAIR * k + VALUE;
-        put_inside(
-            board,
-            at + VALUE * k,
-            Pair::new(cells[value], cells[value + 1]),
-        );
+        let pair = Pair {
+            kind: cells[value],
+            payload: cells[value + 1],
+        };
+        put_inside(board, at + VALUE * k, pair);
         k += 1;
     }
 }

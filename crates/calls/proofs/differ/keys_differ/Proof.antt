@@ -1,47 +1,32 @@
 -- `calls::differ::keys_differ` meets its contract. The loop's invariant: the keys behind those that are left differ, and the slot of each has a
 -- mark. The measure is how many are left.
 -- Assumes nothing.
-use mathlib.Core.Path.{_≡_, refl, sym, ap, subst, _∙_}
-use mathlib.Core.Bool.{Bool}
-use mathlib.Core.List.{List}
+use mathlib.Core.Path.{sym, ap, subst, _∙_}
 use Prim.Native.Nat.{ℕ, _+_, _-_, _*_, _<_}
 use native.Mathlib.Omega.{arith}
-use lib.ListN.{drop, set, length-replicate}
+use lib.ListN.{set, length-replicate}
 use borrow.Author.Tests.{not-true, not-false}
 use borrow.Author.Needs.{needs}
-use Rattle.rules.specs.CallRecord.{Pair, pairWidth, readPair, keyIn}
-use Rattle.rules.specs.CallQuestions.{keysDiffer}
-use Rattle.cells.specs.Record.{pairAt}
-use Rattle.calls.specs.Runs.{pairsAt, keyThere, keysOf, newKey}
+use Rattle.rules.specs.CallRecord.{pairWidth}
+use Rattle.calls.specs.Runs.{keyThere}
 use Rattle.calls.specs.Slots.{slots}
 use Rattle.calls.proofs.LawsForm.{entry-key}
-use Rattle.calls.proofs.LawsSlots.{entrySlot, mark, keySlot-below, key-unmarked, Walked, formed-last, formed-behind, walked-none, walked-start, walked-end, behind-marked, walked-next, walked-fails}
+use Rattle.calls.proofs.LawsSlots.{slot-below, mark, Walked, formed-last, formed-behind, walked-none, walked-start, walked-end, walked-new, walked-next, walked-fails}
 use Rattle.calls.proofs.differ.keys_differ.Statement.{statement}
 use Rattle.calls.proofs.differ.keys_differ.Tie as tie
 
--- no key of some entries stands twice; and the first is none of the others
-abbrev holds : List ℕ → List Pair → Bool
-holds area ps = keysDiffer (keysOf area ps)
-
-abbrev first : List ℕ → Pair → List Pair → Bool
-first area p ps = newKey (keyIn area (p .key)) (keysOf area ps)
-
 abbrev Inv-loop : tie.InvT-loop
-Inv-loop cells area from count marks₀ left₀ marks left = Walked (holds area) (entrySlot area) cells marks from count left
+Inv-loop cells area from count marks₀ left₀ marks left = Walked area cells marks from count left
 
 abbrev μ-loop : tie.MeasureT-loop
 μ-loop cells area from count marks₀ left₀ marks left = left
 
 returns : tie.Need-returns Inv-loop μ-loop
-returns c =
-    let a = c .before .before .before .args in
-    sym (walked-none (entrySlot (a .area .now)) (first (a .area .now)) (holds (a .area .now)) (λ p ps. refl) (a .cells .now) (a .from) (a .count) (λ p. refl) refl (c .if1 .taken))
+returns c = let a = c .before .before .before .args in sym (walked-none (a .area .now) (a .cells .now) (a .from) (a .count) (c .if1 .taken))
 
 loop-holds : tie.Need-loop-holds Inv-loop μ-loop
 unfolding slots
-loop-holds c =
-    let a = c .before .before .before .args in
-    walked-start (entrySlot (a .area .now)) (first (a .area .now)) (holds (a .area .now)) (λ p ps. refl) _ _ _ _ (length-replicate {A = ℕ} 929 0) refl
+loop-holds c = walked-start _ _ _ _ _ (length-replicate {A = ℕ} 929 0)
 
 sub-behind : tie.Need-sub-behind Inv-loop μ-loop
 sub-behind c = omega (arith, c .before .loop .inv .few)
@@ -66,58 +51,39 @@ unfolding slots pairWidth
 below c =
     let l = c .before .before in
     let a = l .before .before .before .before .args in
-    subst (λ (n : ℕ). n < 929) (sym (c .key-slot .ensures)) (keySlot-below (keyThere (a .area .now) (a .cells .now) (a .from + pairWidth * (l .loop .left - 1))))
+    subst (λ (n : ℕ). n < 929) (sym (c .key-slot .ensures)) (slot-below (keyThere (a .area .now) (a .cells .now) (a .from + pairWidth * (l .loop .left - 1))))
 
-array-read-key-apart : tie.Need-array-read-key-apart Inv-loop μ-loop
-array-read-key-apart c = below c
-
-key-apart-requires : tie.Need-key-apart-requires Inv-loop μ-loop
-unfolding pairWidth readPair pairAt
-key-apart-requires c κs =
+key-new-requires : tie.Need-key-new-requires Inv-loop μ-loop
+unfolding pairWidth
+key-new-requires c κs =
     let n = c .before in
     let l = n .before in
     let s = l .before .before .before .before in
-    let area = s .args .area .now in
-    let cells = s .args .cells .now in
-    let at = s .args .from + pairWidth * (l .loop .left - 1) in
     let few = l .loop .inv .few in (
-      entry-key area cells at (formed-last _ _ _ _ _ (n .loop-test .taken) few (s .pre)),
+      entry-key _ _ _ (formed-last _ _ _ _ _ (n .loop-test .taken) few (s .pre)),
       formed-behind _ _ _ _ _ (n .loop-test .taken) few (s .pre),
-      λ free. key-unmarked area (l .loop .marks) (readPair (drop at cells)) (pairsAt cells (at + pairWidth) (s .args .count - l .loop .left))
-          (sym (ap (mark (l .loop .marks)) (c .key-slot .ensures)) ∙ free)
-          (behind-marked (entrySlot area) (first area) (holds area) (λ p ps. refl) _ _ _ _ _ (n .loop-test .taken) (l .loop .inv)),
+      λ free. walked-new _ _ _ _ _ _ (n .loop-test .taken) (l .loop .inv) (sym (ap (mark (l .loop .marks)) (c .key-slot .ensures)) ∙ free),
     )
 
 returns-2 : tie.Need-returns-2 Inv-loop μ-loop
-unfolding pairWidth readPair pairAt
+unfolding pairWidth
 returns-2 c =
     let n = c .before .before .before in
     let l = n .before in
-    let area = l .before .before .before .before .args .area .now in
-    sym
-    (walked-fails (entrySlot area) (first area) (holds area) (λ p ps. refl) _ _ _ _ _ (n .loop-test .taken) (l .loop .inv)
-    (sym (c .before .key-apart .ensures) ∙ not-true _ (c .if2 .taken)))
-
-array-write-marks : tie.Need-array-write-marks Inv-loop μ-loop
-array-write-marks c = below (c .before .before)
+    sym (walked-fails _ _ _ _ _ _ (n .loop-test .taken) (l .loop .inv) (sym (c .before .key-new .ensures) ∙ not-true _ (c .if2 .taken)))
 
 loop-again : tie.Need-loop-again Inv-loop μ-loop
-unfolding pairWidth readPair pairAt
+unfolding pairWidth
 loop-again c =
     let n = c .before .before .before in
     let l = n .before in
     let a = l .before .before .before .before .args in
-    let area = a .area .now in
-    subst (λ (slot : ℕ). Walked (holds area) (entrySlot area) (a .cells .now) (set (l .loop .marks) slot 1) (a .from) (a .count) (l .loop .left - 1))
+    subst (λ (slot : ℕ). Walked (a .area .now) (a .cells .now) (set (l .loop .marks) slot 1) (a .from) (a .count) (l .loop .left - 1))
     (sym (c .before .before .key-slot .ensures))
-    (walked-next (entrySlot area) (first area) (holds area) (λ p ps. refl) _ _ _ _ _ (n .loop-test .taken) (l .loop .inv)
-    (keySlot-below (keyThere area (a .cells .now) (a .from + pairWidth * (l .loop .left - 1))))
-    (sym (c .before .key-apart .ensures) ∙ not-false _ (c .if2 .left)))
+    (walked-next _ _ _ _ _ _ (n .loop-test .taken) (l .loop .inv) (sym (c .before .key-new .ensures) ∙ not-false _ (c .if2 .left)))
 
 returns-3 : tie.Need-returns-3 Inv-loop μ-loop
-returns-3 c =
-    let a = c .before .before .before .before .before .args in
-    sym (walked-end (entrySlot (a .area .now)) (first (a .area .now)) (holds (a .area .now)) (λ p ps. refl) _ _ _ _ _ (c .loop-test .left) (c .before .loop .inv))
+returns-3 c = sym (walked-end _ _ _ _ _ _ (c .loop-test .left) (c .before .loop .inv))
 
 pub keys-differ-spec : {M : Type 1} → statement M
-keys-differ-spec = tie.close (tie.spec Inv-loop μ-loop returns loop-holds sub-behind (λ c. search needs) mul-at add-at key-slot-requires array-read-key-apart key-apart-requires returns-2 array-write-marks (λ c. omega arith) loop-again returns-3)
+keys-differ-spec = tie.close (tie.spec Inv-loop μ-loop returns loop-holds sub-behind (λ c. search needs) mul-at add-at key-slot-requires (λ c. below c) key-new-requires returns-2 (λ c. below (c .before .before)) (λ c. omega arith) loop-again returns-3)

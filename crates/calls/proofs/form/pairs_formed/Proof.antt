@@ -1,59 +1,36 @@
--- `calls::form::pairs_formed` meets its contract. The loop's invariant: what is left lies inside the cells, and all of the run is well
--- formed if what is left is. The measure is how many are left.
+-- `calls::form::pairs_formed` meets its contract: the run of what stands first in each pair, and the run of the values.
 -- Assumes nothing.
-use mathlib.Core.Path.{_≡_, refl, sym, ap, _∙_}
-use Prim.Native.Nat.{_+_, _*_, _≤_}
+use mathlib.Core.Path.{sym, _∙_}
 use native.Mathlib.Omega.{arith}
-use lib.ListN.{length}
 use borrow.Author.Tests.{not-true, not-false}
 use borrow.Author.Needs.{needs}
-use Rattle.rules.specs.Listing.{all}
-use Rattle.rules.specs.CallRecord.{pairWidth, readPair}
-use Rattle.rules.specs.CallQuestions.{wellFormedPair}
-use Rattle.calls.specs.Runs.{pairsAt}
-use Rattle.calls.proofs.LawsEach.{each-none, all-passes, all-fails}
+use Rattle.rules.specs.Value.{valueWidth}
+use Rattle.rules.specs.CallRecord.{pairWidth}
+use Rattle.calls.proofs.LawsForm.{pairs-pass, pairs-fail}
 use Rattle.calls.proofs.form.pairs_formed.Statement.{statement}
 use Rattle.calls.proofs.form.pairs_formed.Tie as tie
 
-abbrev Inv-loop : tie.InvT-loop
-Inv-loop cells area from count at₀ left₀ at left =
-    (at + pairWidth * left ≤ length cells) × (all (wellFormedPair area) (pairsAt cells from count) ≡ all (wellFormedPair area) (pairsAt cells at left))
-
-abbrev μ-loop : tie.MeasureT-loop
-μ-loop cells area from count at₀ left₀ at left = left
-
-loop-holds : tie.Need-loop-holds Inv-loop μ-loop
-loop-holds c = (c .before .before .pre, refl)
-
-pair-formed-requires : tie.Need-pair-formed-requires Inv-loop μ-loop
+run-formed-requires : tie.Need-run-formed-requires
 unfolding pairWidth
-pair-formed-requires c κs = omega arith
+run-formed-requires c κs = λ k below. omega (arith, c .before .before .pre)
 
-returns : tie.Need-returns Inv-loop μ-loop
+returns : tie.Need-returns
 unfolding pairWidth
 returns c =
-    let l = c .before .before .before in
-    sym
-    (l .loop .inv .1
-    ∙ all-fails pairWidth readPair _ _ (l .loop .at) _ (c .before .before .loop-test .taken) (sym (c .before .pair-formed .ensures) ∙ not-true _ (c .if1 .taken)))
+    let a = c .before .before .before .before .args in
+    sym (pairs-fail (a .role) (a .area .now) (a .cells .now) (a .from) (a .count) (sym (c .before .run-formed .ensures) ∙ not-true _ (c .if1 .taken)))
 
-add-at : tie.Need-add-at Inv-loop μ-loop
+run-formed-requires-2 : tie.Need-run-formed-requires-2
 unfolding pairWidth
-add-at c = omega arith
+run-formed-requires-2 c κs = λ k below. omega (arith, c .before .before .before .before .pre)
 
-loop-again : tie.Need-loop-again Inv-loop μ-loop
-unfolding pairWidth
-loop-again c =
-    let l = c .before .before .before in (
-      omega arith,
-      l .loop .inv .1
-          ∙ all-passes pairWidth readPair _ _ (l .loop .at) _ (c .before .before .loop-test .taken) (sym (c .before .pair-formed .ensures) ∙ not-false _ (c .if1 .left)),
-    )
-
-returns-2 : tie.Need-returns-2 Inv-loop μ-loop
+returns-2 : tie.Need-returns-2
+unfolding valueWidth pairWidth
 returns-2 c =
-    let s = c .before .before .before .before .args in
-    sym (c .before .loop .inv .1 ∙ ap (all (wellFormedPair (s .area .now))) (each-none pairWidth readPair _ _ (c .loop-test .left)))
+    let f = c .before .before in
+    let a = f .before .before .before .args in
+    c .run-formed2 .ensures
+    ∙ sym (pairs-pass (a .role) (a .area .now) (a .cells .now) (a .from) (a .count) (sym (f .run-formed .ensures) ∙ not-false _ (c .before .if1 .left)))
 
 pub pairs-formed-spec : {M : Type 1} → statement M
-pairs-formed-spec = tie.close (tie.spec Inv-loop μ-loop loop-holds pair-formed-requires returns add-at (λ c. search needs) (λ c. omega arith) loop-again returns-2)
+pairs-formed-spec = tie.close (tie.spec run-formed-requires returns (λ c. search needs) run-formed-requires-2 returns-2)

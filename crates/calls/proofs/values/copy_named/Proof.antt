@@ -8,7 +8,6 @@ use lib.ListN.{length}
 use Rattle.rules.specs.Cells.{writeEach}
 use Rattle.rules.specs.Value.{valueCells}
 use Rattle.cells.specs.Out.{stored}
-use Rattle.cells.specs.Value.{pairOf}
 use Rattle.cells.specs.Record.{pairAt}
 use Rattle.cells.specs.Listed.{listed}
 use Rattle.cells.proofs.LawsOut.{stored-none}
@@ -29,14 +28,14 @@ loop-holds c = (search needs, refl, sym (stored-none (c .before .before .args .b
 
 loop-again : tie.Need-loop-again Inv-loop μ-loop
 loop-again c =
-    let start = c .before .before .before .before .before .before .before .before .before .before .before in
+    let start = c .before .before .before .before .before .before .before .before .before .before in
     let a = start .args in
-    let at = c .before .before .before .before .before .before .before .before .loop in
+    let at = c .before .before .before .before .before .before .before .loop in
     let value : ℕ → ℕ = λ k. a .from + 4 * k + 2 in (
       search needs,
       c .before .before .put-inside .kept .0 ∙ at .inv .1,
       c .before .before .put-inside .ensures
-          ∙ ap₂ (λ b v. stored b (a .at + 2 * at .k) (valueCells v)) (at .inv .2) (ap pairOf (c .before .before .before .new .ensures) ∙ sym (pairAt-is (a .cells .now) (value (at .k))) ∙ ap (λ j. pairAt (a .cells .now) (value j)) (sym (zero-add (at .k))))
+          ∙ ap₂ (λ b v. stored b (a .at + 2 * at .k) (valueCells v)) (at .inv .2) (sym (pairAt-is (a .cells .now) (value (at .k))) ∙ ap (λ j. pairAt (a .cells .now) (value j)) (sym (zero-add (at .k))))
           ∙ written-more 2 valueCells valueCells-two (λ j. pairAt (a .cells .now) (value j)) 0 (at .k) (a .at) (a .board .now) (omega (arith, start .pre .2)),
     )
 
@@ -51,4 +50,4 @@ returns c =
     subst (λ n. at .board ≡ stored (a .board .now) (a .at) (writeEach valueCells (listed (λ j. pairAt (a .cells .now) (a .from + 4 * j + 2)) 0 n))) whole (at .inv .2)
 
 pub copy-named-spec : {M : Type 1} → statement M
-copy-named-spec = tie.close (tie.spec Inv-loop μ-loop loop-holds (λ c. search needs) (λ c. search needs) (λ c. search needs) (λ c. search needs) (λ c. search needs) (λ c. search needs) (λ c. search needs) (λ c. search needs) (λ c. search needs) (λ c. search needs) (λ c κs. search needs) (λ c κs. search needs) (λ c. search needs) (λ c. search needs) loop-again same-length returns)
+copy-named-spec = tie.close (tie.spec Inv-loop μ-loop loop-holds (λ c. search needs) (λ c. search needs) (λ c. search needs) (λ c. search needs) (λ c. search needs) (λ c. search needs) (λ c. search needs) (λ c. search needs) (λ c. search needs) (λ c. search needs) (λ c κs. search needs) (λ c. search needs) (λ c. search needs) loop-again same-length returns)

@@ -1,3 +1,5 @@
+-- `calls::values::write_values` meets its contract. The loop's invariant: the first k values are stored. The measure is how many are left.
+-- Assumes nothing.
 use mathlib.Core.Path.{_≡_, refl, sym, ap, ap₂, subst, _∙_}
 use Prim.Native.Nat.{_-_, _+_, _*_, _≤_}
 use native.Mathlib.Omega.{arith}
