@@ -9,3 +9,4 @@ pub mod LawsLoop
 pub mod LawsPrepared
 pub mod LawsRecord
 pub mod LawsKinds
+pub mod LawsEnded

@@ -12,11 +12,12 @@ use Rattle.rules.specs.Collection.{callOf}
 use Rattle.cells.specs.Answer.{answerOf}
 use Rattle.builder.specs.Params.{parametersIn}
 use Rattle.calls.specs.Head.{headOf}
+use Rattle.calls.specs.declared.head.Head.{Head}
 use Rattle.calls.specs.Keys.{askKeys}
 use Rattle.calls.proofs.LawsCall.{keys-form}
 use Rattle.answers.specs.declared.answer.Collected.{Collected}
 use Rattle.collector.specs.Collect.{Ends, boundTo, isShort, Beginning}
-use Rattle.collector.specs.declared.collect.Begun.the-variants.{Ended}
+use Rattle.collector.specs.declared.collect.Begun.the-variants.{Ended, Open}
 use Rattle.collector.proofs.LawsReady.{call-ready, call-few, values-within, none-written}
 use Rattle.collector.proofs.LawsEnds.{short-call, short-unnamed, bound-keys, call-passed, bound-short-board, bound-binding}
 use borrow.Author.Needs.{needs}
@@ -30,6 +31,13 @@ ends-now qs cells area before after r e =
       ended = λ c same. let is : r ≡ c = cc in subst (λ x. Ends (boundTo qs cells area before) before after x) is e;
       left-open = λ h same. let z : _≡_ {A = ℕ} 0 1 = cc in absurd (omega arith);
     }
+
+-- a call that is left open has not ended, and has its head
+open-ended : {X : Type 0} {h : Head} {r : Collected} → Open h ≡ Ended r → X
+open-ended same = let z : _≡_ {A = ℕ} 0 1 = cc in absurd (omega arith)
+
+open-head : {h k : Head} → Open h ≡ Open k → h ≡ k
+open-head same = cc
 
 returns : tie.Need-returns
 returns c spec l list positional len =
@@ -98,9 +106,9 @@ returns-4 c spec l list positional len =
     let read = c .before .before in
     let a = startOf read .args in
     record {
-      ended = λ r same. let z : _≡_ {A = ℕ} 0 1 = cc in absurd (omega arith);
+      ended = λ r same. open-ended same;
       left-open = λ h same.
-          let is : read .read-head .result ≡ h = cc in
+          let is : read .read-head .result ≡ h = open-head same in
           (ap headOf (sym is) ∙ read .read-head .ensures, passed (read .before), refl);
     }
 

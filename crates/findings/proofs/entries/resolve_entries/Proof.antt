@@ -23,6 +23,7 @@ use Rattle.findings.specs.declared.entries.Entered.{Entered}
 use Rattle.findings.specs.declared.entries.Entered.the-variants.{NotText, Repeated}
 use Rattle.findings.proofs.LawsNames.{one-each}
 use Rattle.findings.proofs.LawsLoop.{entries-near, resolved-held, before-few, before-room, asked-refused, asked-free, below-free, resolved-free}
+use Rattle.findings.proofs.LawsEnded.{not-text-all, repeated-all, entries-all}
 use borrow.Author.Needs.{needs}
 use Rattle.findings.proofs.entries.resolve_entries.Statement.{statement}
 use Rattle.findings.proofs.entries.resolve_entries.Tie as tie
@@ -114,14 +115,14 @@ returns : tie.Need-returns Inv-loop μ-loop
 returns c o ready =
     record {
       answer = refused-at (c .before .before) NotText (c .enum-told .given .1) 18 none refl o ready;
-      resolved = λ n e. let z : _≡_ {A = ℕ} 0 1 = cc in absurd (omega arith);
+      resolved = λ n e. not-text-all e;
     }
 
 returns-2 : tie.Need-returns-2 Inv-loop μ-loop
 returns-2 c o ready =
     record {
       answer = refused-at (c .before .before .before) (Repeated (c .before .entered .given .0 .0)) (c .before .entered .given .1) 19 (name (placeOf callArea (c .before .entered .given .0 .0))) refl o ready;
-      resolved = λ n e. let z : _≡_ {A = ℕ} 0 1 = cc in absurd (omega arith);
+      resolved = λ n e. repeated-all e;
     }
 
 -- an index that is found is one of a slot
@@ -184,7 +185,7 @@ returns-3 c o ready =
     record {
       answer = λ P u. sym (so-far .1 P u ∙ ap (askEntries qs P (written ++ pairsFrom (a .area .now) (a .cells .now) (entriesFrom (headOf (a .h))) (at .k))) (listed-end (λ j. entryAt (a .area .now) (a .cells .now) (entriesFrom (headOf (a .h)) + 4 * j)) (at .k) (a .h .d) (c .if1 .left)));
       resolved = λ n e.
-          let same : at .count ≡ n = cc in
+          let same : at .count ≡ n = entries-all e in
           subst (λ m. Resolved qs (a .cells .now) (a .area .now) (written ++ pairsFrom (a .area .now) (a .cells .now) (entriesFrom (headOf (a .h))) (a .h .d)) (at .sources) (at .rest) m) same
           (subst (λ m. Resolved qs (a .cells .now) (a .area .now) (written ++ pairsFrom (a .area .now) (a .cells .now) (entriesFrom (headOf (a .h))) m) (at .sources) (at .rest) (at .count)) whole (so-far .0));
     }

@@ -15,6 +15,7 @@ use Rattle.findings.specs.Resolve.{Below, Naming, Others, lentList, pair
 use Rattle.findings.specs.Entries.{heldNames, repeatsBy}
 use Rattle.findings.proofs.LawsNames.{one-each, naming-below, naming-few, naming-room, naming-repeats, naming-twice, naming-differ, naming-step}
 use Rattle.findings.proofs.LawsLoop.{resolved-held}
+use Rattle.findings.proofs.LawsEnded.{twice-all, all-twice, names-all}
 use borrow.Author.Needs.{needs}
 use Rattle.findings.proofs.resolve.resolve_names.Statement.{statement}
 use Rattle.findings.proofs.resolve.resolve_names.Tie as tie
@@ -94,7 +95,7 @@ returns c o naming =
     let start = startOf (found .before .before) in
     let a = start .args in
     record {
-      all = λ m e. let z : _≡_ {A = ℕ} 0 1 = cc in absurd (omega arith);
+      all = λ m e. twice-all e;
       repeated = λ e. naming-twice (a .spec .now) (listFor start o) (a .cells .now) (a .area .now) (a .from) (a .n) (a .sources .now) (a .rest .now) naming (at .k) (found .before .loop-test .taken) (sym (tested (c .before) o naming) ∙ c .if1 .taken);
     }
 
@@ -142,10 +143,10 @@ returns-2 c o naming =
     let whole : at .k ≡ a .n = omega (arith, at .inv .0, c .loop-test .left) in
     record {
       all = λ m e.
-          let same : at .count ≡ m = cc in
+          let same : at .count ≡ m = names-all e in
           subst (λ x. (differ (textsOf (pairsFrom (a .area .now) (a .cells .now) (a .from) (a .n))) ≡ true) × Resolved qs (a .cells .now) (a .area .now) (pairsFrom (a .area .now) (a .cells .now) (a .from) (a .n)) (at .sources) (at .rest) x) same
           (subst (λ x. (differ (textsOf (pairsFrom (a .area .now) (a .cells .now) (a .from) x)) ≡ true) × Resolved qs (a .cells .now) (a .area .now) (pairsFrom (a .area .now) (a .cells .now) (a .from) x) (at .sources) (at .rest) (at .count)) whole (at .inv .1 o naming));
-      repeated = λ e. let z : _≡_ {A = ℕ} 0 1 = cc in absurd (omega arith);
+      repeated = λ e. all-twice e;
     }
 
 pub resolve-names-spec : {M : Type 1} → statement M
