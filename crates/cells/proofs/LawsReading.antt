@@ -4,16 +4,17 @@
 use mathlib.Core.Path.{_≡_, refl, ap, _∙_, subst⁻¹}
 use mathlib.Core.Bool.{Bool, true, false, cond, _&&_, _||_}
 use mathlib.Core.List.{List}
-use Prim.Native.Nat.{ℕ, zero, suc}
+use Prim.Native.Nat.{ℕ, zero, suc, _≤_}
+use native.Mathlib.Omega.{arith}
 use lib.Dec.{eqb, leb, leb·zero, leb·suc-suc, eqb·suc-zero}
 use lib.Ieee.{binary64, nanBits, ofBits}
 use mir.Syntax.{w64}
 use mir.Val.{toZ}
 use borrow.Author.Tests.{eqb-true, eqb-false, eq-eqb, ne-eqb}
 use Rattle.rules.specs.Text.{isText, inside, startOf, sizeOf}
-use Rattle.rules.specs.Value.{wellFormed, wellFormedDefault, wellFormedArgument, wellFormedName, wellFormedKey, specText, callText}
+use Rattle.rules.specs.Value.{wellFormed, wellFormedArgument, wellFormedName, wellFormedKey, specText, callText}
 use Rattle.cells.specs.Text.{textOf, readText}
-use Rattle.cells.specs.Value.{value, realOf, valueAs, readDefault, readArgument, wellFormedSlot, readSlot, readName, readKey}
+use Rattle.cells.specs.Value.{value, realOf, valueAs, readAs, readDefault, readArgument, wellFormedSlot, readSlot, readName, readKey}
 use Rattle.cells.specs.declared.text.Text.{Text}
 use Rattle.cells.specs.declared.text.ReadText.{ReadText}
 use Rattle.cells.specs.declared.text.ReadText.the-variants as text
@@ -35,13 +36,13 @@ text-or-not : (make : Text → Value) (t : Text) (b : Bool) → cond (b || false
 text-or-not make t true = refl
 text-or-not make t false = refl
 
-pub default-text : (area : List ℕ) (payload : ℕ) → readDefault area 5 payload ≡ asValue SpecText (readText 0 area payload)
-unfolding readDefault wellFormedDefault wellFormed specText readText
-default-text area payload = text-or-not SpecText (textOf payload) (isText 0 area payload)
-
-pub argument-text : (area : List ℕ) (payload : ℕ) → readArgument area 6 payload ≡ asValue CallText (readText 0 area payload)
-unfolding readArgument wellFormedArgument wellFormed callText readText
-argument-text area payload = text-or-not CallText (textOf payload) (isText 0 area payload)
+pub text-read : (text : ℕ) → 5 ≤ text → text ≤ 6 → (area : List ℕ) (payload : ℕ) (make : Text → Value) → valueAs text payload ≡ make (textOf payload)
+    → readAs text area text payload ≡ asValue make (readText 0 area payload)
+unfolding readAs wellFormed readText
+text-read text l h area payload make same =
+    rw
+    (ne-eqb text 1 (λ e. omega arith), ne-eqb text 2 (λ e. omega arith), ne-eqb text 3 (λ e. omega arith), ne-eqb text 4 (λ e. omega arith), ne-eqb text 7 (λ e. omega arith), eq-eqb text text refl, same)
+    (text-or-not make (textOf payload) (isText 0 area payload))
 
 -- ---- a value on a board, by its kind
 
@@ -85,8 +86,8 @@ not-key (suc (suc (suc (suc (suc (suc (suc (suc kind)))))))) payload m n = refl
 
 module _ (area : List ℕ) (payload : ℕ) where
   key-text : keyOf (readArgument area 6 payload) ≡ readKey area 6 payload
-  unfolding readText readKey wellFormedKey callText
-  key-text = ap keyOf (argument-text area payload) ∙ go (isText 0 area payload)
+  unfolding readAs readArgument wellFormedArgument readText readKey wellFormedKey callText
+  key-text = ap keyOf (text-read 6 (omega arith) (omega arith) area payload CallText refl) ∙ go (isText 0 area payload)
     where
       go : (b : Bool) → keyOf (asValue CallText (cond b (text.Is (textOf payload)) text.Not)) ≡ cond b (key.Word (textOf payload)) key.Not
       go true = refl

@@ -4,8 +4,7 @@ use crate::text::ReadText;
 use crate::text::Text;
 use crate::text::read_text;
 ghost use mathlib.Core.Path.{_≡_};
-ghost use mathlib.Core.List.{List};
-ghost use Prim.Native.Nat.{ℕ};
+ghost use Prim.Native.Nat.{_≤_};
 ghost use lib.Ieee.{binary64, toBits};
 ghost use mir.Syntax.{w64};
 ghost use mir.Val.{toZ, ofZ};
@@ -66,45 +65,39 @@ impl Pair {
     }
 }
 
+// The kinds of texts, by the area that they stand in.
+const SPEC_TEXT: u64 = 5;
+
+const CALL_TEXT: u64 = 6;
+
 // A default: its texts lie in the spec area.
 pub fn read_default(area: &[u8], kind: u64, payload: u64) -> ReadValue
     ensures { λ r. ⌜ r ≡ readDefault (now (area .entry)) kind payload ⌝ }
 {
-    if kind != 5 {
-        return read_plain(kind, payload);
-    }
-    match read_text(area, 0, payload) {
-        ReadText::Is(t) => ReadValue::Is(Value::SpecText(t)),
-        ReadText::Not => ReadValue::Not,
-    }
+    read_as(SPEC_TEXT, area, kind, payload)
 }
 
 // A value of a call: its texts lie in the call area.
 pub fn read_argument(area: &[u8], kind: u64, payload: u64) -> ReadValue
     ensures { λ r. ⌜ r ≡ readArgument (now (area .entry)) kind payload ⌝ }
 {
-    if kind != 6 {
-        return read_plain(kind, payload);
-    }
-    match read_text(area, 0, payload) {
-        ReadText::Is(t) => ReadValue::Is(Value::CallText(t)),
-        ReadText::Not => ReadValue::Not,
-    }
+    read_as(CALL_TEXT, area, kind, payload)
 }
 
 // A value on a board: a text of kind 5 is a default's, anything else is as in a call.
 pub fn read_slot(spec: &[u8], call: &[u8], kind: u64, payload: u64) -> ReadValue
     ensures { λ r. ⌜ r ≡ readSlot (now (spec .entry)) (now (call .entry)) kind payload ⌝ }
 {
-    if kind == 5 {
+    if kind == SPEC_TEXT {
         return read_default(spec, kind, payload);
     }
     read_argument(call, kind, payload)
 }
 
-// A value that is no text, which is the same wherever it stands: whatever kind of text is used there.
-fn read_plain(kind: u64, payload: u64) -> ReadValue
-    ensures { λ r. ⌜ ((text : ℕ) (area : List ℕ) → (kind ≡ text → ⊥) → r ≡ readAs text area kind payload) ⌝ }
+// A value where `text` is the kind of text that is used. What is no text is the same wherever it stands.
+fn read_as(text: u64, area: &[u8], kind: u64, payload: u64) -> ReadValue
+    requires { ⌜ (5 ≤ text) × (text ≤ 6) ⌝ }
+    ensures { λ r. ⌜ r ≡ readAs text (now (area .entry)) kind payload ⌝ }
 {
     match kind {
         1 => {
@@ -127,7 +120,18 @@ fn read_plain(kind: u64, payload: u64) -> ReadValue
             }
             ReadValue::Not
         }
-        _ => ReadValue::Not,
+        _ => {
+            if kind != text {
+                return ReadValue::Not;
+            }
+            let ReadText::Is(t) = read_text(area, 0, payload) else {
+                return ReadValue::Not;
+            };
+            if text == SPEC_TEXT {
+                return ReadValue::Is(Value::SpecText(t));
+            }
+            ReadValue::Is(Value::CallText(t))
+        }
     }
 }
 
@@ -149,16 +153,13 @@ pub fn read_key(area: &[u8], kind: u64, payload: u64) -> ReadKey
 pub fn read_name(area: &[u8], kind: u64, payload: u64) -> ReadText
     ensures { λ r. ⌜ r ≡ readName (now (area .entry)) kind payload ⌝ }
 {
-    match read_key(area, kind, payload) {
-        ReadKey::Word(t) => {
-            if t.len == 0 {
-                return ReadText::Not;
-            }
-            ReadText::Is(t)
-        }
-        ReadKey::Number(_) => ReadText::Not,
-        ReadKey::Not => ReadText::Not,
+    let ReadKey::Word(t) = read_key(area, kind, payload) else {
+        return ReadText::Not;
+    };
+    if t.len == 0 {
+        return ReadText::Not;
     }
+    ReadText::Is(t)
 }
 
 // The highest bit alone: two's complement's sign, and a float's.

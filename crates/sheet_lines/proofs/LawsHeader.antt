@@ -1,39 +1,23 @@
--- Words among the three cells of a line (01, sheets): the index of one, step by step; a word stands among them where its index is one
--- of theirs; what three indices say of a header.
+-- Words among the three cells of a line (01, sheets): a word stands among them where its index is one of theirs; what three indices say of a
+-- header.
 -- Assumes nothing.
-use mathlib.Core.Path.{_≡_, refl}
+use mathlib.Core.Path.{_≡_, refl, ap, _∙_}
 use mathlib.Core.Bool.{Bool, true, false, cond, _&&_, _||_, false≢true}
 use mathlib.Core.List.{List, [], _∷_}
 use mathlib.Core.Option.{none, some}
-use Prim.Native.Nat.{ℕ}
+use Prim.Native.Nat.{ℕ, suc}
 use lib.Dec.{eqb, ltb}
 use lib.ListN.{length}
 use borrow.Author.Tests.{ltb-true}
-use Rattle.rules.specs.Listing.{any}
+use Rattle.rules.specs.Listing.{any, firstFrom}
 use Rattle.rules.specs.Text.{sameBytes}
 use Rattle.rules.specs.SheetLines.{cellsIn, orThree, columnOf, columnsIn, partWord, nameWord, valueWord, headerRight}
 use Rattle.rules.proofs.LawsListing.{and-left, and-right}
 use Rattle.sheet_lines.specs.Piece.{piece}
 use Rattle.sheet_lines.specs.Header.{headerOf, HeaderRead}
+use Rattle.sheet_lines.specs.Word.{positionOf}
 
 module _ (word a b c : List ℕ) where
-  -- the four answers
-  pub column-first : sameBytes word a ≡ true → columnOf word (a ∷ b ∷ c ∷ []) ≡ 0
-  unfolding columnOf
-  column-first e = rw e
-
-  pub column-second : sameBytes word a ≡ false → sameBytes word b ≡ true → columnOf word (a ∷ b ∷ c ∷ []) ≡ 1
-  unfolding columnOf
-  column-second e f = rw (e, f)
-
-  pub column-third : sameBytes word a ≡ false → sameBytes word b ≡ false → sameBytes word c ≡ true → columnOf word (a ∷ b ∷ c ∷ []) ≡ 2
-  unfolding columnOf
-  column-third e f g = rw (e, f, g)
-
-  pub column-nowhere : sameBytes word a ≡ false → sameBytes word b ≡ false → sameBytes word c ≡ false → columnOf word (a ∷ b ∷ c ∷ []) ≡ 3
-  unfolding columnOf
-  column-nowhere e f g = rw (e, f, g)
-
   any-column : any (sameBytes word) (a ∷ b ∷ c ∷ []) ≡ ltb (columnOf word (a ∷ b ∷ c ∷ [])) 3
   unfolding columnOf
   any-column = go (sameBytes word a) (sameBytes word b) (sameBytes word c)
@@ -43,6 +27,15 @@ module _ (word a b c : List ℕ) where
       go false true r = refl
       go false false true = refl
       go false false false = refl
+
+column-position : (word : List ℕ) (i : ℕ) (cells : List (List ℕ)) → positionOf word i 3 cells ≡ orThree (firstFrom (sameBytes word) i cells)
+column-position word i [] = refl
+column-position word i (c ∷ cs) = go (sameBytes word c) (column-position word (suc i) cs)
+  where
+    go : (b : Bool) → positionOf word (suc i) 3 cs ≡ orThree (firstFrom (sameBytes word) (suc i) cs)
+        → cond b i (positionOf word (suc i) 3 cs) ≡ orThree (cond b (some i) (firstFrom (sameBytes word) (suc i) cs))
+    go true e = refl
+    go false e = e
 
 -- ---- a header
 
@@ -55,13 +48,18 @@ header-not-parted input from to e =
 
 -- one that has: it is right if each word stands among the cells
 module _ (input : List ℕ) (from to : ℕ) (a b c : List ℕ) (e : cellsIn (piece input from to) ≡ a ∷ b ∷ c ∷ []) where
-  pub header-parted : (part name value : ℕ) → part ≡ columnOf partWord (a ∷ b ∷ c ∷ []) → name ≡ columnOf nameWord (a ∷ b ∷ c ∷ [])
-      → value ≡ columnOf valueWord (a ∷ b ∷ c ∷ []) → HeaderRead input from to (headerOf part name value)
+  column : (word : List ℕ) (at : ℕ) → at ≡ positionOf word 0 3 (cellsIn (piece input from to)) → at ≡ columnOf word (a ∷ b ∷ c ∷ [])
+  unfolding columnOf
+  column word at h = h ∙ column-position word 0 (cellsIn (piece input from to)) ∙ ap (λ cells. orThree (firstFrom (sameBytes word) 0 cells)) e
+
+  pub header-parted : (part name value : ℕ) → part ≡ positionOf partWord 0 3 (cellsIn (piece input from to))
+      → name ≡ positionOf nameWord 0 3 (cellsIn (piece input from to)) → value ≡ positionOf valueWord 0 3 (cellsIn (piece input from to))
+      → HeaderRead input from to (headerOf part name value)
   unfolding headerRight columnsIn
   header-parted part name value p n v =
       record {
-        told = rw (e, any-column partWord a b c, any-column nameWord a b c, any-column valueWord a b c, p, n, v);
-        columns = λ t. rw (e, p, n, v);
+        told = rw (e, any-column partWord a b c, any-column nameWord a b c, any-column valueWord a b c, column partWord part p, column nameWord name n, column valueWord value v);
+        columns = λ t. rw (e, column partWord part p, column nameWord name n, column valueWord value v);
         below =
             λ t.
             record {

@@ -4,3 +4,4 @@ pub mod LawsLines
 pub mod LawsCells
 pub mod LawsHeader
 pub mod LawsRow
+pub mod LawsWord

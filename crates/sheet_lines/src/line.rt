@@ -8,7 +8,7 @@ ghost use Rattle.rules.specs.SheetLines.{cellsIn, threeCells};
 ghost use Rattle.sheet_lines.specs.Piece.{piece};
 ghost use Rattle.sheet_lines.specs.Line.{CellsRead};
 
-const COMMA: u8 = 44;
+pub(crate) const COMMA: u8 = 44;
 
 // The bytes that a cell may have.
 const LONGEST: usize = 255;

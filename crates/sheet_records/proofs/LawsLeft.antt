@@ -1,6 +1,6 @@
 -- Writing a run bit by bit (01, records and areas of sheets), as a loop over rows asks: what is left to write, where it goes, and that
--- writing it ends what was begun. A start, one run more, the end; then a run from cell 0 on, as a record's contract says it; then a value's
--- two cells, and two values one behind the other.
+-- writing it ends what was begun. A start, one run more, the end; then a run from cell 0 on, as a record's contract says it; then two
+-- cells.
 -- Assumes nothing.
 use mathlib.Core.Path.{_≡_, refl, sym, ap, subst, _∙_}
 use mathlib.Core.List.{List, [], _∷_, _++_}
@@ -11,7 +11,7 @@ use borrow.Author.Tests.{le-leb}
 use Rattle.rules.specs.Cells.{over}
 use Rattle.rules.specs.Value.{Value, valueCells}
 use Rattle.cells.specs.Out.{stored, Put}
-use Rattle.cells.proofs.LawsOut.{stored-first, stored-length, stored-stored, put-none, put-front, put-rest, put-then}
+use Rattle.cells.proofs.LawsOut.{stored-first, stored-length, put-none, put-same, put-front, put-rest, put-then}
 
 -- `left` of `all` is to be stored from `next` on; whatever does so has stored `all` from `first` on
 pub record Left (all : List ℕ) (first : ℕ) (out₀ left : List ℕ) (next : ℕ) (out : List ℕ) : Type 0 where
@@ -53,19 +53,8 @@ unfolding stored
 put-first v [] h = absurd (omega arith)
 put-first v (x ∷ xs) h = record { held = rw (le-leb 1 (length (x ∷ xs)) h); ends = refl }
 
--- ---- values
+-- ---- two cells
 
-pub put-value : (v : Value) (at : ℕ) (out held : List ℕ) → held ≡ stored out at (valueCells v) → Put (valueCells v) at out held (at + 2)
+pub put-value : (xs : List ℕ) (v : Value) (at : ℕ) (out held : List ℕ) → valueCells v ≡ xs → held ≡ stored out at (valueCells v) → Put xs at out held (at + 2)
 unfolding valueCells
-put-value v at out held e = record { held = e; ends = refl }
-
--- a value, and another behind it
-module _ (v w : Value) (at : ℕ) (out held after : List ℕ) (room : at + 4 ≤ length out) (first : held ≡ stored out at (valueCells v)) where
-  pub put-behind : (end : ℕ) → Put (valueCells w) (at + 2) held after end → Put (valueCells v ++ valueCells w) at out after end
-  unfolding valueCells
-  put-behind end p = put-then (valueCells v) (valueCells w) at out room held after (at + 2) end (put-value v at out held first) p
-
-  pub put-both : after ≡ stored held (at + 2) (valueCells w) → Put (valueCells v ++ valueCells w) at out after (at + 4)
-  unfolding valueCells
-  put-both second =
-      record { held = second ∙ ap (λ h. stored h (at + 2) (valueCells w)) first ∙ stored-stored out (valueCells v) (valueCells w) at (at + 2) refl (omega arith); ends = refl }
+put-value xs v at out held e h = put-same (valueCells v) xs e (record { held = h; ends = refl })

@@ -7,3 +7,4 @@ pub mod LawsColumns
 pub mod LawsSteps
 pub mod LawsCall
 pub mod LawsWritten
+pub mod LawsLoop

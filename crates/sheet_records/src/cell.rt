@@ -2,17 +2,21 @@
 // text stands in its sheet's area, wherever the rows before it left room.
 use cells::text::Text;
 use cells::value::Pair;
-use cells::value::Value;
 use sheet_values::read::Cell;
 use sheet_values::read::read_cell;
 ghost use mathlib.Core.Path.{_≡_};
 ghost use Prim.Native.Nat.{_≤_};
 ghost use lib.ListN.{length};
 ghost use Rattle.rules.specs.Text.{payloadOf};
-ghost use Rattle.rules.specs.Value.{specText, callText};
 ghost use Rattle.rules.specs.SheetValue.{readCell};
 ghost use Rattle.rules.specs.SheetRecords.{textOf, valueAt};
-ghost use Rattle.cells.specs.Value.{pairOf, value};
+ghost use Rattle.cells.specs.Value.{pairOf};
+ghost use Rattle.sheet_records.specs.Run.{textKind};
+
+// The kinds of texts, by the area that they stand in.
+const SPEC_TEXT: u64 = 5;
+
+pub(crate) const CALL_TEXT: u64 = 6;
 
 // The bytes that a cell brings into its area: a text's.
 pub(crate) fn text_of<'a>(cell: &'a [u8]) -> &'a [u8]
@@ -25,37 +29,19 @@ pub(crate) fn text_of<'a>(cell: &'a [u8]) -> &'a [u8]
     }
 }
 
-// A default: its text, if it is one, lies at `start` in the spec area.
-pub(crate) fn default_at(cell: &[u8], start: usize) -> Pair
+// A value by its two cells: its text, if it is one, is of the kind that the sheet's texts are and lies at `start`.
+pub(crate) fn value_at(kind: u64, cell: &[u8], start: usize) -> Pair
     requires { ⌜ (length (now cell) ≤ 255) × (start ≤ 65535) ⌝ }
-    ensures { λ r. ⌜ pairOf r ≡ valueAt specText start (readCell (now (cell .entry))) ⌝ }
+    ensures { λ r. ⌜ pairOf r ≡ valueAt kind start (readCell (now (cell .entry))) ⌝ }
 {
     match read_cell(cell) {
         Cell::Is(v) => v.cells(),
-        Cell::Text => Value::SpecText(Text {
-            start: start as u16,
-            len: (cell.len() - 1) as u8,
-        }).cells(),
+        Cell::Text => Pair::new(kind, payload_of(start, cell.len() - 1)),
         Cell::Not => Pair::new(0, 0),
     }
 }
 
-// A value of a call: its text, if it is one, lies at `start` in the call area.
-pub(crate) fn argument_at(cell: &[u8], start: usize) -> Pair
-    requires { ⌜ (length (now cell) ≤ 255) × (start ≤ 65535) ⌝ }
-    ensures { λ r. ⌜ pairOf r ≡ valueAt callText start (readCell (now (cell .entry))) ⌝ }
-{
-    match read_cell(cell) {
-        Cell::Is(v) => v.cells(),
-        Cell::Text => Value::CallText(Text {
-            start: start as u16,
-            len: (cell.len() - 1) as u8,
-        }).cells(),
-        Cell::Not => Pair::new(0, 0),
-    }
-}
-
-// The payload of a name of `size` bytes.
+// The payload of a text of `size` bytes.
 pub(crate) fn payload_of(start: usize, size: usize) -> u64
     requires { ⌜ (size ≤ 255) × (start ≤ 65535) ⌝ }
     ensures { λ r. ⌜ r ≡ payloadOf start size ⌝ }
@@ -66,13 +52,12 @@ pub(crate) fn payload_of(start: usize, size: usize) -> u64
     }.payload()
 }
 
-// A name in a call, of `size` bytes.
-pub(crate) fn named_at(start: usize, size: usize) -> Pair
-    requires { ⌜ (size ≤ 255) × (start ≤ 65535) ⌝ }
-    ensures { λ r. ⌜ pairOf r ≡ value callText (payloadOf start size) ⌝ }
+// The kind of the texts of a call (`keyed`), and of a parameter sheet.
+pub(crate) fn text_kind(keyed: bool) -> u64
+    ensures { λ r. ⌜ r ≡ textKind keyed ⌝ }
 {
-    Value::CallText(Text {
-        start: start as u16,
-        len: size as u8,
-    }).cells()
+    if keyed {
+        return CALL_TEXT;
+    }
+    SPEC_TEXT
 }

@@ -1,7 +1,7 @@
 -- `cells::out::write_bytes` meets its contract. The loop's invariant: the first k bytes of the text are stored. The measure is how many are
 -- left. Assumes nothing.
 use mathlib.Core.Path.{_≡_, refl, sym, ap, _∙_}
-use Prim.Native.Nat.{_-_, _+_, _≤_}
+use Prim.Native.Nat.{_-_, _≤_}
 use native.Mathlib.Omega.{arith}
 use lib.ListN.{length, take, length-set}
 use lib.Seq.{take-all}

@@ -1,65 +1,39 @@
--- `sheet_lines::word::call_part` meets its contract: each answer rewrites with the comparisons that led there.
+-- `sheet_lines::word::call_part` meets its contract: each arm is told the number of the part in the table of words.
 -- Assumes nothing.
-use mathlib.Core.Path.{sym, _∙_}
+use mathlib.Core.Path.{_≡_, sym, ap, _∙_}
+use borrow.Author.Tests.{ne-eqb}
 use borrow.Author.Needs.{needs}
 use Rattle.rules.specs.SheetRows.{callPart}
+use Rattle.sheet_lines.proofs.LawsWord.{partBy, part-by}
 use Rattle.sheet_lines.proofs.word.call_part.Statement.{statement}
 use Rattle.sheet_lines.proofs.word.call_part.Tie as tie
 
+told : (c : tie.After-position) → partBy (c .position .result) ≡ callPart (c .before .before .before .args .part .now)
+told c = ap partBy (c .position .ensures) ∙ part-by (c .before .before .before .args .part .now)
+
 returns : tie.Need-returns
-unfolding callPart
-returns c =
-    rw (sym (c .before .same .ensures) ∙ c .if1 .taken)
+returns c = ap partBy (sym (c .match .keys1)) ∙ told (c .before)
 
 returns-2 : tie.Need-returns-2
-unfolding callPart
-returns-2 c =
-    let e1 = c .before .before .before in
-    rw (sym (e1 .before .same .ensures) ∙ e1 .if1 .left, sym (c .before .same2 .ensures) ∙ c .if2 .taken)
+returns-2 c = ap partBy (sym (c .match .keys2)) ∙ told (c .before)
 
 returns-3 : tie.Need-returns-3
-unfolding callPart
-returns-3 c =
-    let e2 = c .before .before .before in
-    let e1 = e2 .before .before .before in
-    rw (sym (e1 .before .same .ensures) ∙ e1 .if1 .left, sym (e2 .before .same2 .ensures) ∙ e2 .if2 .left, sym (c .before .same3 .ensures) ∙ c .if3 .taken)
+returns-3 c = ap partBy (sym (c .match .keys3)) ∙ told (c .before)
 
 returns-4 : tie.Need-returns-4
-unfolding callPart
-returns-4 c =
-    let e3 = c .before .before .before in
-    let e2 = e3 .before .before .before in
-    let e1 = e2 .before .before .before in
-    rw (sym (e1 .before .same .ensures) ∙ e1 .if1 .left, sym (e2 .before .same2 .ensures) ∙ e2 .if2 .left, sym (e3 .before .same3 .ensures) ∙ e3 .if3 .left, sym (c .before .same4 .ensures) ∙ c .if4 .taken)
+returns-4 c = ap partBy (sym (c .match .keys4)) ∙ told (c .before)
 
 returns-5 : tie.Need-returns-5
-unfolding callPart
-returns-5 c =
-    let e4 = c .before .before .before in
-    let e3 = e4 .before .before .before in
-    let e2 = e3 .before .before .before in
-    let e1 = e2 .before .before .before in
-    rw (sym (e1 .before .same .ensures) ∙ e1 .if1 .left, sym (e2 .before .same2 .ensures) ∙ e2 .if2 .left, sym (e3 .before .same3 .ensures) ∙ e3 .if3 .left, sym (e4 .before .same4 .ensures) ∙ e4 .if4 .left, sym (c .before .same5 .ensures) ∙ c .if5 .taken)
+returns-5 c = ap partBy (sym (c .match .keys5)) ∙ told (c .before)
 
 returns-6 : tie.Need-returns-6
-unfolding callPart
-returns-6 c =
-    let e5 = c .before .before .before in
-    let e4 = e5 .before .before .before in
-    let e3 = e4 .before .before .before in
-    let e2 = e3 .before .before .before in
-    let e1 = e2 .before .before .before in
-    rw (sym (e1 .before .same .ensures) ∙ e1 .if1 .left, sym (e2 .before .same2 .ensures) ∙ e2 .if2 .left, sym (e3 .before .same3 .ensures) ∙ e3 .if3 .left, sym (e4 .before .same4 .ensures) ∙ e4 .if4 .left, sym (e5 .before .same5 .ensures) ∙ e5 .if5 .left, sym (c .before .same6 .ensures) ∙ c .if6 .taken)
+returns-6 c = ap partBy (sym (c .match .keys6)) ∙ told (c .before)
 
 returns-7 : tie.Need-returns-7
-unfolding callPart
 returns-7 c =
-    let e5 = c .before .before .before in
-    let e4 = e5 .before .before .before in
-    let e3 = e4 .before .before .before in
-    let e2 = e3 .before .before .before in
-    let e1 = e2 .before .before .before in
-    rw (sym (e1 .before .same .ensures) ∙ e1 .if1 .left, sym (e2 .before .same2 .ensures) ∙ e2 .if2 .left, sym (e3 .before .same3 .ensures) ∙ e3 .if3 .left, sym (e4 .before .same4 .ensures) ∙ e4 .if4 .left, sym (e5 .before .same5 .ensures) ∙ e5 .if5 .left, sym (c .before .same6 .ensures) ∙ c .if6 .left)
+    let n = c .before .position .result in
+    let r = c .match .rest in
+    sym (rw (ne-eqb n 1 (r .0 .0 .0 .0 .0 .1), ne-eqb n 2 (r .0 .0 .0 .0 .1), ne-eqb n 3 (r .0 .0 .0 .1), ne-eqb n 4 (r .0 .0 .1), ne-eqb n 5 (r .0 .1), ne-eqb n 6 (r .1))) ∙ told (c .before)
 
 pub call-part-spec : {M : Type 1} → statement M
-call-part-spec = tie.close (tie.spec (λ c. search needs) (λ c κs. search needs) returns (λ c. search needs) (λ c κs. search needs) returns-2 (λ c. search needs) (λ c κs. search needs) returns-3 (λ c. search needs) (λ c κs. search needs) returns-4 (λ c. search needs) (λ c κs. search needs) returns-5 (λ c. search needs) (λ c κs. search needs) returns-6 returns-7)
+call-part-spec = tie.close (tie.spec (λ c. search needs) (λ c κs. search needs) returns returns-2 returns-3 returns-4 returns-5 returns-6 returns-7)

@@ -1,11 +1,11 @@
--- `sheet_records::call::write_head` meets its contract: the six cells are stored two by two.
+-- `sheet_records::write_head` meets its contract: the six cells are stored two by two.
 -- Assumes nothing.
 use mathlib.Core.Path.{ap}
 use borrow.Author.Needs.{needs}
 use Rattle.cells.specs.Value.{pairOf}
 use Rattle.sheet_records.proofs.LawsCall.{head-stored}
-use Rattle.sheet_records.proofs.call.write_head.Statement.{statement}
-use Rattle.sheet_records.proofs.call.write_head.Tie as tie
+use Rattle.sheet_records.proofs.write_head.Statement.{statement}
+use Rattle.sheet_records.proofs.write_head.Tie as tie
 
 returns : tie.Need-returns
 returns c =

@@ -1,10 +1,10 @@
--- `sheet_records::parameters::step_name` meets its contract: each answer rewrites with the test that led there.
+-- `sheet_records::rows::step_name` meets its contract: each answer rewrites with the test that led there.
 -- Assumes nothing.
 use mathlib.Core.Path.{_∙_}
 use borrow.Author.Tests.{lt-ltb, le-ltb}
 use borrow.Author.Needs.{needs}
-use Rattle.sheet_records.proofs.parameters.step_name.Statement.{statement}
-use Rattle.sheet_records.proofs.parameters.step_name.Tie as tie
+use Rattle.sheet_records.proofs.rows.step_name.Statement.{statement}
+use Rattle.sheet_records.proofs.rows.step_name.Tie as tie
 
 returns : tie.Need-returns
 returns c = c .payload-of .ensures ∙ rw (lt-ltb _ _ (c .before .if1 .taken))
