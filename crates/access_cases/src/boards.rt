@@ -1,135 +1,73 @@
 // A walk of the slot reader over the slots that collection wrote on a board.
+use crate::walks::told_by;
 use answers::answer::Collected;
 use collector::collect::collect;
-use reader::Next;
-use reader::Reading;
 use reader::read_is_eof;
 use reader::read_next_opt;
 use replay::compare::Place;
-use replay::compare::fill_board;
+use replay::compare::fresh_board;
 use replay::compare::same;
-use replay::compare::same_at;
-use replay::numbers::area;
+use replay::compare::same_numbers;
 use replay::numbers::counted;
-use replay::numbers::first;
 use replay::numbers::from_to;
+use replay::numbers::piece;
+use replay::numbers::read_area;
 use replay::numbers::take;
-
-const AREA: usize = 65792;
-
-const BOARD: usize = 1024;
+use std::num::wrapping_add_u64;
 
 pub fn play_board(numbers: &[u64], at: &mut usize, place: Place) -> bool {
     let spec_cells = counted(numbers, at);
-    let mut spec_room = [0u8; AREA];
-    let spec_len = area(numbers, at, &mut spec_room);
+    let spec = read_area(numbers, at);
     let call_cells = counted(numbers, at);
-    let mut call_room = [0u8; AREA];
-    let call_len = area(numbers, at, &mut call_room);
-    let spec = first(&spec_room, spec_len);
-    let call = first(&call_room, call_len);
-    let mut board = [0u64; BOARD];
-    fill_board(take(numbers, at), &mut board);
-    let answer = collect(spec_cells, spec, call_cells, call, &mut board);
+    let call = read_area(numbers, at);
+    let mut board = fresh_board(take(numbers, at));
+    let answer = collect(
+        spec_cells,
+        piece(&spec.room, 0, spec.len),
+        call_cells,
+        piece(&call.room, 0, call.len),
+        &mut board,
+    );
     let expected = counted(numbers, at);
-    if refuses(answer) {
+    let Collected::Accepted(_) = answer else {
         return same(place, b"accepted", 1, 0);
-    }
+    };
     walk_slots(place, expected, from_to(&board, 0, expected.len()))
-}
-
-fn refuses(answer: Collected) -> bool {
-    match answer {
-        Collected::Accepted(_) => false,
-        _ => true,
-    }
 }
 
 // Every slot once, in order, and then the end.
 fn walk_slots(place: Place, expected: &[u64], slots: &[u64]) -> bool {
     let mut fine = true;
+    let mut at = 0;
     let mut position = 0;
     while position < expected.len() / 2 {
-        let one = same_slot(place, expected, position, read_next_opt(slots, position));
-        fine = both(fine, one);
+        let kind = take(expected, &mut at);
+        let one = same_slot(place, position, kind, take(expected, &mut at), slots);
+        fine = fine & one;
         position += 1;
     }
     fine
-        && same(
+        & same(
             place,
             b"end of the slots",
             1,
-            bit(read_is_eof(slots, position)),
+            read_is_eof(slots, position) as u64,
         )
-}
-
-fn both(a: bool, b: bool) -> bool {
-    a && b
-}
-
-fn bit(b: bool) -> u64 {
-    if b {
-        return 1;
-    }
-    0
 }
 
 // One slot, and where the read left the reader.
-fn same_slot(place: Place, expected: &[u64], position: usize, reading: Reading) -> bool {
-    let next = reading.next;
-    let moved = same_at(
-        place,
-        b"position after",
-        position,
-        above(position),
-        reading.at as u64,
-    );
-    let kind = same_at(
-        place,
-        b"kind in slot",
-        position,
-        first_of(expected, position),
-        kind_of(next),
-    );
-    moved
-        && kind
-        && same_at(
-            place,
-            b"payload in slot",
-            position,
-            second_of(expected, position),
-            payload_of(next),
-        )
-}
-
-fn above(position: usize) -> u64 {
-    std::num::wrapping_add_u64(position as u64, 1)
-}
-
-fn kind_of(next: Next) -> u64 {
-    match next {
-        Next::Value(pair) => pair.kind,
-        Next::Empty => 0,
-        Next::NoMore => 27,
-        Next::Unfilled => 28,
-    }
-}
-
-fn payload_of(next: Next) -> u64 {
-    match next {
-        Next::Value(pair) => pair.payload,
-        Next::Empty => 0,
-        Next::NoMore => 27,
-        Next::Unfilled => 28,
-    }
-}
-
-// The two cells of a slot; 0 past the end.
-fn first_of(cells: &[u64], slot: usize) -> u64 {
-    cells::record::cell(cells, std::num::wrapping_add_usize(slot, slot))
-}
-
-fn second_of(cells: &[u64], slot: usize) -> u64 {
-    let kind = std::num::wrapping_add_usize(slot, slot);
-    cells::record::cell(cells, std::num::wrapping_add_usize(kind, 1))
+fn same_slot(place: Place, position: usize, kind: u64, payload: u64, slots: &[u64]) -> bool {
+    let before = position as u64;
+    let filled = (kind != 0) as u64;
+    let expected = [filled, kind, payload, wrapping_add_u64(before, 1)];
+    let mut at = 0;
+    let told = told_by(read_next_opt(slots, position));
+    same_numbers(
+        &expected,
+        &mut at,
+        place.at_part(before),
+        b"number",
+        4,
+        told,
+    )
 }

@@ -42,20 +42,23 @@ impl<'a> ParametersParser<'a> {
     pub fn next(&mut self) -> Next
         ensures { λ r. ⌜ (readOf r ≡ readNeeded (leftOf (now (self .entry)))) × (now (self .exit) ≡ movedOn (now (self .entry))) ⌝ }
     {
-        let slots = self.slots;
-        let at = self.at;
-        let reading = needed_at(slots, at);
-        self.at = reading.at;
-        reading.next
+        self.read(Next::Unfilled)
     }
 
     // An optional value.
     pub fn next_opt(&mut self) -> Next
         ensures { λ r. ⌜ (readOf r ≡ readOptional (leftOf (now (self .entry)))) × (now (self .exit) ≡ movedOn (now (self .entry))) ⌝ }
     {
+        self.read(Next::Empty)
+    }
+
+    // A read of either sort (the Rust's `get_next`); `empty` is its answer for an empty slot.
+    fn read(&mut self, empty: Next) -> Next
+        ensures { λ r. ⌜ (readOf r ≡ readOr (readOf empty) (leftOf (now (self .entry)))) × (now (self .exit) ≡ movedOn (now (self .entry))) ⌝ }
+    {
         let slots = self.slots;
         let at = self.at;
-        let reading = optional_at(slots, at);
+        let reading = read_at(slots, at, empty);
         self.at = reading.at;
         reading.next
     }
@@ -73,19 +76,20 @@ impl<'a> ParametersParser<'a> {
 pub fn read_next(slots: &[u64], at: usize) -> Reading
     ensures { λ r. ⌜ Reads readNeeded (now (slots .entry)) at r ⌝ }
 {
-    let mut parser = ParametersParser { slots, at };
-    let next = parser.next();
-    Reading {
-        next,
-        at: parser.at,
-    }
+    read_once(slots, at, Next::Unfilled)
 }
 
 pub fn read_next_opt(slots: &[u64], at: usize) -> Reading
     ensures { λ r. ⌜ Reads readOptional (now (slots .entry)) at r ⌝ }
 {
+    read_once(slots, at, Next::Empty)
+}
+
+fn read_once(slots: &[u64], at: usize, empty: Next) -> Reading
+    ensures { λ r. ⌜ Reads (readOr (readOf empty)) (now (slots .entry)) at r ⌝ }
+{
     let mut parser = ParametersParser { slots, at };
-    let next = parser.next_opt();
+    let next = parser.read(empty);
     Reading {
         next,
         at: parser.at,
@@ -99,21 +103,8 @@ pub fn read_is_eof(slots: &[u64], at: usize) -> bool
     parser.is_eof()
 }
 
-// The work: what each read answers at a position of some cells.
-fn needed_at(cells: &[u64], at: usize) -> Reading
-    ensures { λ r. ⌜ Reads readNeeded (now (cells .entry)) at r ⌝ }
-{
-    read_at(cells, at, Next::Unfilled)
-}
-
-fn optional_at(cells: &[u64], at: usize) -> Reading
-    ensures { λ r. ⌜ Reads readOptional (now (cells .entry)) at r ⌝ }
-{
-    read_at(cells, at, Next::Empty)
-}
-
-// A read of either sort (the Rust's `get_next`); `empty` is its answer for an empty slot. A position may be any number at all, so it is
-// compared with the number of slots before it is doubled.
+// The work: what a read answers at a position of some cells. A position may be any number at all, so it is compared with the number of
+// slots before it is doubled.
 fn read_at(cells: &[u64], at: usize, empty: Next) -> Reading
     ensures { λ r. ⌜ Reads (readOr (readOf empty)) (now (cells .entry)) at r ⌝ }
 {

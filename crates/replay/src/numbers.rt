@@ -1,6 +1,27 @@
 // The input as numbers: decimals with anything between them, and a comment from # to the end of its line. Reading past the end gives 0 or
 // nothing, so a short input shows as differences.
 use std::num::wrapping_add_usize;
+ghost use mathlib.Core.Path.{_≡_};
+ghost use lib.ListN.{length};
+
+// Room for the numbers of an input.
+const NUMBERS: usize = 262144;
+
+// Room for an area whose last text starts as far on as a text can start.
+const AREA: usize = 65792;
+
+// The bytes of an area at the start of their room, and how many they are.
+pub struct Area {
+    pub room: [u8; AREA],
+    pub len: usize,
+}
+
+// The `ensures` gives the length, which lending the array as a slice needs.
+pub fn room_for_numbers() -> [u64; NUMBERS]
+    ensures { λ r. ⌜ 262144 ≡ length r ⌝ }
+{
+    [0; NUMBERS]
+}
 
 // Where the reading of the text stands: in a comment or in a number, the number's value so far, and how many were read before it.
 struct Scan {
@@ -72,12 +93,12 @@ fn scan_text(text: &[u8], start: Scan, out: &mut [u64]) -> Scan {
     scan
 }
 
-fn is_digit(byte: u8) -> bool {
+pub fn is_digit(byte: u8) -> bool {
     b'0' <= byte && byte <= b'9'
 }
 
 // One digit more. No number of the input goes beyond 64 bits, so what becomes of one that does is left open.
-fn with_digit(value: u64, digit: u8) -> u64 {
+pub fn with_digit(value: u64, digit: u8) -> u64 {
     if 1844674407370955161 < value {
         return 0;
     }
@@ -107,6 +128,10 @@ fn put(ended: bool, count: usize, value: u64, out: &mut [u64]) -> usize {
 pub fn take(numbers: &[u64], at: &mut usize) -> u64 {
     let i = *at;
     *at = wrapping_add_usize(i, 1);
+    number(numbers, i)
+}
+
+pub fn number(numbers: &[u64], i: usize) -> u64 {
     if i < numbers.len() {
         return numbers[i];
     }
@@ -133,9 +158,18 @@ pub fn from_to<'a>(numbers: &'a [u64], from: usize, n: usize) -> &'a [u64] {
     &numbers[from..end]
 }
 
-// An area's bytes, put at the start of `out`: their number.
-pub fn area(numbers: &[u64], at: &mut usize, out: &mut [u8]) -> usize {
+pub fn read_area(numbers: &[u64], at: &mut usize) -> Area {
+    let mut room = [0u8; AREA];
+    let len = put_area(numbers, at, &mut room);
+    Area { room, len }
+}
+
+// An area's bytes, put at the start of `out`: their number, or more than there is room for.
+fn put_area(numbers: &[u64], at: &mut usize, out: &mut [u8]) -> usize {
     let runs = take(numbers, at);
+    if (out.len() as u64) < runs {
+        return wrapping_add_usize(out.len(), 1);
+    }
     let mut len = 0;
     let mut k = 0;
     while k < runs {
@@ -160,28 +194,55 @@ fn low_byte(n: u64) -> u8 {
     (n % 256) as u8
 }
 
+// A byte as many times from an index on: the index behind them, or one behind the room where they do not fit.
 fn put_times(times: u64, byte: u8, from: usize, out: &mut [u8]) -> usize {
+    let most = out.len();
+    if most < from {
+        return wrapping_add_usize(most, 1);
+    }
+    if ((most - from) as u64) < times {
+        return wrapping_add_usize(most, 1);
+    }
+    let end = from + times as usize;
     let mut i = from;
-    let mut left = times;
-    while 0 < left {
-        put_byte(byte, i, out);
-        i = wrapping_add_usize(i, 1);
-        left -= 1;
+    while i < end {
+        out[i] = byte;
+        i += 1;
     }
     i
 }
 
-fn put_byte(byte: u8, i: usize, out: &mut [u8]) {
-    if out.len() <= i {
-        return;
+// The bytes from an index up to another; none where they do not stand so.
+pub fn piece<'a>(bytes: &'a [u8], from: usize, to: usize) -> &'a [u8] {
+    if to < from {
+        return &bytes[..0];
     }
-    out[i] = byte;
+    if bytes.len() < to {
+        return &bytes[..0];
+    }
+    &bytes[from..to]
 }
 
-// The first bytes of an area; none where it is shorter.
-pub fn first<'a>(area: &'a [u8], n: usize) -> &'a [u8] {
-    if area.len() < n {
-        return &area[..0];
+// The first cells of a board; all where it has fewer.
+pub fn front(board: &mut [u64], len: usize) -> &mut [u64] {
+    if board.len() < len {
+        return board;
     }
-    &area[..n]
+    &mut board[0..len]
+}
+
+// The like for the bytes of an output.
+pub fn front_bytes(out: &mut [u8], len: usize) -> &mut [u8] {
+    if out.len() < len {
+        return out;
+    }
+    &mut out[0..len]
+}
+
+// The cells of a board from an index on; none where it has fewer.
+pub fn behind(board: &mut [u64], from: usize) -> &mut [u64] {
+    if board.len() < from {
+        return &mut board[..0];
+    }
+    &mut board[from..]
 }

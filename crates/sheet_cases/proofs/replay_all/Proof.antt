@@ -5,16 +5,12 @@ use lib.ListN.{length}
 use borrow.Author.Needs.{needs}
 use Rattle.sheet_cases.proofs.replay_all.Statement.{statement}
 use Rattle.sheet_cases.proofs.replay_all.Tie as tie
-use Rattle.io.proofs.print_decimal.Reads as print-decimal-reads
-use Rattle.io.proofs.write_all.Reads as write-all-reads
-use Rattle.sheet_cases.proofs.cases.first_case.Reads as first-case-reads
-use Rattle.sheet_cases.proofs.play_next.Reads as play-next-reads
 
 abbrev Inv-loop : tie.InvT-loop
-Inv-loop text tally₀ turns₀ t4 t5 t6 tally turns = turns ≤ length text
+Inv-loop text tally₀ case₀ turns₀ t5 tally case turns = turns ≤ length text
 
 abbrev μ-loop : tie.MeasureT-loop
-μ-loop text tally₀ turns₀ t4 t5 t6 tally turns = turns
+μ-loop text tally₀ case₀ turns₀ t5 tally case turns = turns
 
 pub replay-all-spec : {M : Type 1} → statement M
-replay-all-spec = tie.close (tie.spec Inv-loop μ-loop (λ c κs. search needs) (λ c. search needs) (λ c κs. search needs) (λ c. search needs) (λ c. search needs) (λ c. search needs) (λ c. search needs) (λ c κs. search needs) (λ c κs. search needs) (λ c. search needs) (λ c κs. search needs) (λ c κs. search needs) (λ c. search needs) (λ c κs. search needs) (λ c. search needs))
+replay-all-spec = tie.close (tie.spec Inv-loop μ-loop (λ c κs. search needs) (λ c κs. search needs) (λ c. search needs) (λ c κs. search needs) (λ c κs. search needs) (λ c. search needs) (λ c. search needs) (λ c. search needs) (λ c. search needs) (λ c κs. search needs) (λ c. search needs))

@@ -4,8 +4,6 @@ use Prim.Native.Nat.{_≤_, _-_}
 use borrow.Author.Needs.{needs}
 use Rattle.access_cases.proofs.accesses.play_accessors.Statement.{statement}
 use Rattle.access_cases.proofs.accesses.play_accessors.Tie as tie
-use Rattle.access_cases.proofs.accesses.both.Reads as both-reads
-use Rattle.access_cases.proofs.accesses.play_one.Reads as play-one-reads
 
 abbrev Inv-loop : tie.InvT-loop
 Inv-loop numbers at₀ place cells call given same₀ which₀ at same which = which ≤ 6

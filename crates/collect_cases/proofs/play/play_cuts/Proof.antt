@@ -6,10 +6,10 @@ use Rattle.collect_cases.proofs.play.play_cuts.Statement.{statement}
 use Rattle.collect_cases.proofs.play.play_cuts.Tie as tie
 
 abbrev Inv-loop : tie.InvT-loop
-Inv-loop numbers at₀ place cuts spec-cells spec call lent sixteen₀ nineteen₀ differs₀ k₀ at sixteen nineteen differs k = k ≤ cuts
+Inv-loop numbers at₀ place cuts spec-cells spec call lent sixteen₀ nineteen₀ same₀ k₀ at sixteen nineteen same k = k ≤ cuts
 
 abbrev μ-loop : tie.MeasureT-loop
-μ-loop numbers at₀ place cuts spec-cells spec call lent sixteen₀ nineteen₀ differs₀ k₀ at sixteen nineteen differs k = cuts - k
+μ-loop numbers at₀ place cuts spec-cells spec call lent sixteen₀ nineteen₀ same₀ k₀ at sixteen nineteen same k = cuts - k
 
 pub play-cuts-spec : {M : Type 1} → statement M
-play-cuts-spec = tie.close (tie.spec Inv-loop μ-loop (λ c. search needs) (λ c κs. search needs) (λ c κs. search needs) (λ c κs. search needs) (λ c κs. search needs) (λ c κs. search needs) (λ c κs. search needs) (λ c. search needs) (λ c. search needs) (λ c. search needs) (λ c. search needs) (λ c. search needs))
+play-cuts-spec = tie.close (tie.spec Inv-loop μ-loop (λ c. search needs) (λ c κs. search needs) (λ c κs. search needs) (λ c κs. search needs) (λ c. search needs) (λ c. search needs) (λ c. search needs) (λ c. search needs))

@@ -18,24 +18,20 @@ use ghost.Atoms.{Atoms, sem}
 use contract.Lifetimes.{AllOutlive}
 use contract.Monad.{Fun, fact}
 use contract.Running.{givenOf, tables, tablesOf}
-use types.Kit.{Given, ‵, raw, _⊛_, given, ⋆, some, later, _$_, _∵_, !, qed, by, move, keep, drop, use1, use2, split, join, learn, pick, fsplit, fsplit3, fjoin, fjoin3, feqI, suffices, frame, await, done}
+use types.Kit.{Given, ‵, raw, _⊛_, ⋆, some, later, _$_, _∵_, !, qed, by, move, keep, drop, use1, use2, split, join, pick, fsplit, fsplit3, fjoin, fjoin3, feqI, suffices, frame, await, done}
 use types.Part.{whole, sub, look-in}
 use types.Run.{look, init, forget, stop, hop, fld, from, load, of-opd, and-then, no-more, assigns, land, returns, enter, alloc1, alloc0, params1, pass1, pass0, free1, free0}
 use sound.WpLaws.{FmC, fmOf, WpFn-mono}
-use denote.RattleType.{RattleType, owns}
+use denote.RattleType.{owns}
 use denote.Laws.{Is, shows}
 use denote.Memory.{cellAt, partAt}
 use denote.Plain.{uint-makes, bool-lawful}
 use denote.Builtin.{u64, usize, bool}
-use denote.Ref.{RefT, NamedLft, ShrRef, now, ptr-vals, shr-tells}
-use denote.Signature.{Slot, plain, namedLft}
+use denote.Ref.{RefT, ShrRef, now, ptr-vals, shr-tells}
 use denote.Slice.{sliceVal, ShrSlice}
 use denote.Steps.{looks, shuts, owned, peeks, heard, nothing}
-use denote.Struct.Declared.{Declared}
 use denote.Struct.Laws as LL
-use denote.Struct.Rest.{all-own, ownAt, rest, own-open, own-out}
 use denote.Struct.Steps.{spelt}
-use denote.Struct.Values.{Values}
 use denote.Triple.Statement.{Contract, Triple}
 use denote.Triple.Call.{calls-at}
 use denote.Triple.Clauses.{ensured, lasts}
@@ -46,7 +42,7 @@ use denote.Triple.Walked.{says, Stays, stay-none-ref, walkOf, goes-none-ref, Wal
 use denote.Exit.{yes}
 use Rattle.rules.specs.Reader.{atEnd, leftAt}
 use Rattle.reader.specs.declared.ParametersParser.{ParametersParser}
-use Rattle.reader.proofs.ParametersParser as T
+use Rattle.reader.proofs.Held.{α, B, D, L, behind, parted}
 use Rattle.reader.proofs.ParametersParser.Laws as T′
 use Rattle.reader.proofs.is_end as core
 use Rattle.reader.proofs.is_end.Symbol as core-def
@@ -56,17 +52,6 @@ use Rattle.reader.proofs.ParametersParser.is_eof.Key.{name as #reader·
 use Rattle.reader.proofs.ParametersParser.is_eof as is-eof
 use Rattle.reader.proofs.ParametersParser.is_eof.Statement as stated
 use Rattle.reader.proofs.ParametersParser.is_eof.Code as code
-
--- 'a, and the parser's type at it
-abbrev α : Lft → NamedLft
-α κ′ = record { mir = named 1; lft = κ′ }
-
-abbrev B : Lft → RattleType
-B κ′ = T.the-row (α κ′)
-
--- `ParametersParser<'a>`, as the referent's place in the signature
-abbrev behind : Slot 2
-behind = plain (λ κs. T.the-row (namedLft 2 1 tt κs))
 
 abbrev stayed : Stays (is-eof.ended .signature .params) (is-eof.ended .kept)
 stayed = (stay-none-ref (0 ∷ []) tt behind yes, tt)
@@ -93,17 +78,8 @@ module _ {M : Type 1} (𝓤 : URA M) (H : Heap 𝓤) (A : Atoms 𝓤) (W : Given
   abbrev Post : Val → SProp 𝓤
   Post = walkOf 𝓤 H A is-eof.ended stayed (is-eof.clauses 𝓤 H A at-mem run) .post (((κ, (κ′, tt)), (q, (q′, tt)), bounds, x, at), tt)
 
-  abbrev D : Declared
-  D = T.the-type (α κ′)
-
-  abbrev L : LL.Laws D
-  L = T′.the-laws (α κ′)
-
   abbrev Own : Fml
   Own = B κ′ .own h (mach ∷ [])
-
-  abbrev vd : Values (D .parts)
-  vd = (h .slots, (h .at, tt))
 
   -- what the callee is passed
   abbrev passed : Vals core.signature (κ′, tt)
@@ -119,11 +95,9 @@ module _ {M : Type 1} (𝓤 : URA M) (H : Heap 𝓤) (A : Atoms 𝓤) (W : Given
   apart : h .at < 2 ^ 64 → ent 𝓤 (⋆ 𝓤 H A (‵ Own ∷ (‵ (flft κ′ q′) ⊛ ‵ ftrue) ∷ [])) (sep 𝓤 (Core 𝓤 H A at-mem run .pre to) (sem 𝓤 H A Own))
   apart fits =
       qed W (‵ Own ∷ (‵ (flft κ′ q′) ⊛ ‵ ftrue) ∷ []) ∵
-      use1 W (‵ Own ⊛ ‵ Own) (LL.copy D (T′.the-copy (α κ′)) 𝓤 H A W .twice h (mach ∷ [])) $ split ! $
-      use1 W (given (mach ∷ [] ≡ mach ∷ []) (‵ (all-own (D .parts) L vd))) (own-open 𝓤 H A W D L vd mach) $ learn ! (λ _. use1 W (‵ (ownAt (D .parts) L 0 (h .slots)) ⊛ ‵ (rest (D .parts) L 0 vd)) (own-out 𝓤 H A W (D .parts) L 0 vd) $ split ! $
-      -- [what the slots own; what the position owns; what the parser owns; 'a's token]
-      move ! (1 ∷ []) $ drop ! $ nothing ! $ owned ! usize (Is usize) (uint-makes 𝓤 H A W w64) (h .at) _ (refl, fits) $ fjoin ! $ move ! (1 ∷ 0 ∷ []) $ fjoin ! $
-      move ! (2 ∷ 0 ∷ []) $ use2 W (raw (Core 𝓤 H A at-mem run .pre to)) asked $ frame ! $ done !)
+      use1 W (‵ (ShrSlice (named 0) κ′ u64 .own (h .slots) (sliceVal (h .slots .ptr) (length (h .slots .now)) ∷ [])) ⊛ ‵ Own) (parted 𝓤 H A W κ′ h) $ split ! $
+      nothing ! $ owned ! usize (Is usize) (uint-makes 𝓤 H A W w64) (h .at) _ (refl, fits) $ fjoin ! $ move ! (1 ∷ 0 ∷ []) $ fjoin ! $
+      move ! (2 ∷ 0 ∷ []) $ use2 W (raw (Core 𝓤 H A at-mem run .pre to)) asked $ frame ! $ done !
 
   -- of the callee's `ensured`, the clause alone: it has no `&mut`, so what is said of last values is dropped
   said : (r : Bool) → ent 𝓤 (ensured 𝓤 H A core.ended (core.clauses 𝓤 H A at-mem run) (κ′, tt) (h .slots, (h .at, tt)) tt r) (fact 𝓤 (Found r))
@@ -141,11 +115,11 @@ module _ {M : Type 1} (𝓤 : URA M) (H : Heap 𝓤) (A : Atoms 𝓤) (W : Given
         qed W ((‵ (flft κ q) ⊛ ‵ (flft κ′ q′) ⊛ ‵ ftrue) ∷ ‵ (owns (ShrRef (named 0) κ (B κ′) ∷ []) x at) ∷ []) ∵ enter ! C Λ code.function (vptr b o ∷ []) _ $
         alloc1 ! (λ l₀. alloc1 ! (λ l₁. alloc1 ! (λ l₂. alloc1 ! (λ l₃. alloc0 ! $ params1 ! $ pass1 ! (init ! 4 refl (tt, tt)) $ pass0 ! $
         move ! (9 ∷ []) $ fsplit ! $ fsplit3 ! $ drop ! $ move ! (11 ∷ []) $ split ! $ move ! (3 ∷ 0 ∷ []) $
-        looks ! tt (B κ′) (Is (B κ′)) (shows 𝓤 H A (B κ′)) (LL.vals D L) (LL.tells D L) (LL.copy D (T′.the-copy (α κ′)) 𝓤 H A W) h b o (λ t vs. spelt ! (B κ′) (Is (B κ′)) (shows 𝓤 H A (B κ′)) (LL.vals D L) (LL.tells D L) t h vs b o $
+        looks ! tt (B κ′) (Is (B κ′)) (shows 𝓤 H A (B κ′)) (LL.vals (D κ′) (L κ′)) (LL.tells (D κ′) (L κ′)) (LL.copy (D κ′) (T′.the-copy (α κ′)) 𝓤 H A W) h b o (λ t vs. spelt ! (B κ′) (Is (B κ′)) (shows 𝓤 H A (B κ′)) (LL.vals (D κ′) (L κ′)) (LL.tells (D κ′) (L κ′)) t h vs b o $
         use1 W (‵ (fat t (T′.mir erased) b o mach)) (W .laws .raw-at t (T′.mir erased) b o mach) $
         move ! (1 ∷ []) $ peeks ! (B κ′) (Is (B κ′)) (shows 𝓤 H A (B κ′)) h (mach ∷ []) (λ was. move ! (1 ∷ 0 ∷ []) $
         -- [a share of the parser's cell; what a parser owns; what shuts it; the fractured borrow; 'a's token; res; …; _3; …; _2; …; _1; …; room for _0; …]
-        let wt = LL.lawful D L 𝓤 H A W .typed h _ was .0 in
+        let wt = LL.lawful (D κ′) (L κ′) 𝓤 H A W .typed h _ was .0 in
         assigns ! (of-opd ! (load ! (from ! (hop ! (look ! 11 refl) (fld ! refl (stop !)))) (look-in ! 0 (sub ! 0 refl (whole !))))) (from ! (stop !)) (init ! 9 refl (tt, wt .1 .0)) $
         assigns ! (of-opd ! (load ! (from ! (hop ! (look ! 11 refl) (fld ! refl (stop !)))) (look-in ! 0 (sub ! 1 refl (whole !))))) (from ! (stop !)) (init ! 7 refl (tt, wt .1 .1 .0)) $
         move ! (1 ∷ 4 ∷ []) $ use2 W (raw (Core 𝓤 H A at-mem run .pre to) ⊛ ‵ Own) (apart (wt .1 .1 .0 .fits)) $ split ! $
