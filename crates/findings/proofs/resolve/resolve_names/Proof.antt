@@ -2,7 +2,7 @@
 -- these columns, so what is resolved answers 13 for the name at k. Where the next name is looked for first is of no account. Assumes nothing.
 use mathlib.Core.Path.{_≡_, refl, sym, ap, subst, _∙_}
 use mathlib.Core.Bool.{true}
-use Prim.Native.Nat.{ℕ, _+_, _*_, _-_, _≤_}
+use Prim.Native.Nat.{_+_, _*_, _-_, _≤_}
 use native.Mathlib.Omega.{arith}
 use Rattle.rules.specs.Text.{among, differ}
 use Rattle.rules.specs.Binding.{textsOf}
