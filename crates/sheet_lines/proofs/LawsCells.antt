@@ -1,6 +1,6 @@
 -- The cells of a line by where the searches for commas ended (01, sheets): one cell, two, three, or more; then how long each of three is.
 -- Assumes nothing.
-use mathlib.Core.Path.{_≡_}
+use mathlib.Core.Path.{_≡_, refl}
 use mathlib.Core.Bool.{Bool, true, false, cond, _&&_, false≢true}
 use mathlib.Core.List.{List, [], _∷_}
 use Prim.Native.Nat.{ℕ, suc, _+_, _-_, _≤_, _<_}
@@ -62,13 +62,20 @@ module _ (input : List ℕ) (from to first : ℕ) (a : PieceEnd 44 input from to
 
 -- ---- how long they are
 
+and-three : (x y z : Bool) → x && (y && (z && true)) ≡ x && y && z
+and-three true true true = refl
+and-three true true false = refl
+and-three true false z = refl
+and-three false y z = refl
+
 pub three-short : (input : List ℕ) (from to first second : ℕ) → Apart from to first second → to ≤ length input
     → cellsIn (piece input from to) ≡ threePieces input from to first second
-    → threeCells (cellsIn (piece input from to)) ≡ leb (first - from) 255 && (leb (second - (first + 1)) 255 && (leb (to - (second + 1)) 255 && true))
+    → threeCells (cellsIn (piece input from to)) ≡ leb (first - from) 255 && leb (second - (first + 1)) 255 && leb (to - (second + 1)) 255
 unfolding threeCells
 three-short input from to first second a h e =
     rw
     (e, piece-length input from first (a .after) (omega arith), piece-length input (suc first) second (omega arith) (omega arith), piece-length input (suc second) to (omega arith) h, add-one first, add-one second)
+    (and-three (leb (first - from) 255) (leb (second - suc first) 255) (leb (to - suc second) 255))
 
 -- more or fewer cells than three are never right
 pub not-three : (cells : List (List ℕ)) → eqb (length cells) 3 ≡ false → threeCells cells ≡ false

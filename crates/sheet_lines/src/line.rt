@@ -32,21 +32,11 @@ pub fn three_cells(input: &[u8], from: usize, to: usize) -> Cells
     }
     let first = cells.first;
     let second = cells.second;
-    let wrong = Cells {
-        right: false,
+    Cells {
+        right: short(from, first) && short(first + 1, second) && short(second + 1, to),
         first,
         second,
-    };
-    if !short(from, first) {
-        return wrong;
     }
-    if !short(first + 1, second) {
-        return wrong;
-    }
-    if !short(second + 1, to) {
-        return wrong;
-    }
-    cells
 }
 
 // Has the line three cells, however long? A header is asked no more than that.
