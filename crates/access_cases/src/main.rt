@@ -18,14 +18,14 @@ use replay::tally::Tally;
 use replay::tally::summary;
 use walks::play_walk;
 
-// The sections of the input, by the numbers that a line of difference names them by.
-const LISTS: u64 = 5;
+// The sections of the input.
+const CALLS: u64 = 1;
 
-const WALKS: u64 = 6;
+const LISTS: u64 = 2;
 
-const BOARDS: u64 = 7;
+const WALKS: u64 = 3;
 
-const CALLS: u64 = 8;
+const BOARDS: u64 = 4;
 
 fn main() {
     let mut numbers = room_for_numbers();
@@ -62,9 +62,9 @@ fn section(numbers: &[u64], at: &mut usize, index: u64) -> Tally {
 // One case of any section: did it end as expected?
 fn play(numbers: &[u64], at: &mut usize, index: u64, place: Place) -> bool {
     match index {
-        5 => play_list(numbers, at, place),
-        6 => play_walk(numbers, at, place),
-        7 => play_board(numbers, at, place),
-        _ => play_call(numbers, at, place),
+        1 => play_call(numbers, at, place),
+        2 => play_list(numbers, at, place),
+        3 => play_walk(numbers, at, place),
+        _ => play_board(numbers, at, place),
     }
 }

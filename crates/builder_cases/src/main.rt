@@ -226,11 +226,15 @@ fn case(area: &[u8], label: &[u8], record: Record) {
 
 fn built(area: &[u8], record: Record) -> builder::spec::Finished {
     let cells = record.cells;
-    let len = record.len;
-    if len <= 272 {
-        return builder::build(&cells[..len], area);
+    builder::build(front(&cells, record.len), area)
+}
+
+// The first cells of a record; all where it has fewer.
+fn front(cells: &[u64], len: usize) -> &[u64] {
+    if cells.len() < len {
+        return cells;
     }
-    builder::build(&cells, area)
+    &cells[0..len]
 }
 
 fn number(answer: Answer) -> u64 {

@@ -23,11 +23,11 @@ fn main() {
 // The five sections of the input, in its order.
 fn replay(numbers: &[u64]) {
     let mut at = 0;
-    let examples = section(numbers, &mut at, 0);
-    let limits = section(numbers, &mut at, 1);
-    let records = section(numbers, &mut at, 2);
-    let families = section(numbers, &mut at, 3);
-    let oracle = section(numbers, &mut at, 4);
+    let examples = section(numbers, &mut at, 1);
+    let limits = section(numbers, &mut at, 2);
+    let records = section(numbers, &mut at, 3);
+    let families = section(numbers, &mut at, 4);
+    let oracle = section(numbers, &mut at, 5);
     summary(b"examples: ", examples);
     summary(b"limits: ", limits);
     summary(b"records: ", records);

@@ -15,7 +15,8 @@ const BOARD: usize = 1024;
 
 const JOINED: usize = 512;
 
-// A case: its section, its number there, from 1, and which of its parts, from 1; 0 is the case itself.
+// A case: the section of the input, its number there, and which of its parts, a cut, a read, a slot or an accessor, each from 1; part 0 is the
+// case itself.
 pub struct Place {
     section: u64,
     case: u64,
@@ -42,67 +43,15 @@ impl Place {
     }
 
     fn say(self) {
-        say_section(self.section);
+        io::write_all(1, b"section ");
+        io::print_decimal(1, self.section);
+        io::write_all(1, b", case ");
         io::print_decimal(1, self.case);
         if 0 < self.part {
-            say_part(self.section);
+            io::write_all(1, b", part ");
             io::print_decimal(1, self.part);
         }
         io::write_all(1, b": ");
-    }
-}
-
-// The sections of all the inputs.
-fn say_section(n: u64) {
-    match n {
-        0 => {
-            io::write_all(1, b"example ");
-        }
-        1 => {
-            io::write_all(1, b"limit ");
-        }
-        2 => {
-            io::write_all(1, b"record ");
-        }
-        3 => {
-            io::write_all(1, b"family ");
-        }
-        4 => {
-            io::write_all(1, b"answer of the published Rust ");
-        }
-        5 => {
-            io::write_all(1, b"list ");
-        }
-        6 => {
-            io::write_all(1, b"walk ");
-        }
-        7 => {
-            io::write_all(1, b"board ");
-        }
-        8 => {
-            io::write_all(1, b"call ");
-        }
-        _ => {
-            io::write_all(1, b"sheet ");
-        }
-    }
-}
-
-// A walk has reads, a board has slots, a call is asked by accessors, and all else has cuts.
-fn say_part(section: u64) {
-    match section {
-        6 => {
-            io::write_all(1, b", read ");
-        }
-        7 => {
-            io::write_all(1, b", slot ");
-        }
-        8 => {
-            io::write_all(1, b", accessor ");
-        }
-        _ => {
-            io::write_all(1, b", cut ");
-        }
     }
 }
 
