@@ -92,7 +92,7 @@ unfolding partAt
 part-inside area payload h = rw h
 
 -- what is written for each case
-abbrev formOf : List ℕ → List ℕ → ℕ → Value → List ℕ
+abbrev pub formOf : List ℕ → List ℕ → ℕ → Value → List ℕ
 formOf spec call payload Nothing = 110 ∷ []
 formOf spec call payload (Flag b) = 98 ∷ decimal payload
 formOf spec call payload (Whole z) = 105 ∷ printWhole payload
