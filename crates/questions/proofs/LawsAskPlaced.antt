@@ -24,7 +24,7 @@ use Rattle.findings.specs.Resolved.{namedAt, Resolved}
 use Rattle.findings.specs.Resolve.{Prepared}
 use Rattle.findings.specs.Found.{firstMissing}
 use Rattle.calls.specs.Values.{positionalAt}
-use Rattle.questions.specs.Judge.{lostTo, missingAs, missingOr, remaindersAs, placedAs, judgedAnswer}
+use Rattle.questions.specs.Judge.{lostTo, missingAs, firstOf, refusedAt, requiredAs, surplusAs, unknownAs, placedAs, judgedAnswer}
 use Rattle.questions.specs.declared.judge.Judged.{Judged}
 use Rattle.questions.specs.declared.judge.Judged.the-variants.{Fine, Refused}
 use Rattle.answers.specs.declared.answer.Collected.the-variants.{ExtraPositionalArg, ExtraNamedArg}
@@ -56,11 +56,11 @@ missing-style (suc zero) payload = refl
 missing-style (suc (suc zero)) payload = refl
 missing-style (suc (suc (suc n))) payload = refl
 
-missing-asked : (spec : List ℕ) (l : ParametersSpec) (list : Prepared spec l) (o : Option ℕ) (rest : Judged) (after : Answer) → judgedAnswer rest ≡ after
-    → judgedAnswer (missingOr o (λ i. missingAs (getD (l .params .styles) i 0) (getD (l .params .names) i 0)) rest) ≡ (missingAt (parameter spec l list) o then after)
+missing-asked : (spec : List ℕ) (l : ParametersSpec) (list : Prepared spec l) (o : Option ℕ) (kept : ℕ) (rest : Judged) (after : Answer) → judgedAnswer rest ≡ after
+    → judgedAnswer (firstOf (refusedAt o (λ i. missingAs (getD (l .params .styles) i 0) (getD (l .params .names) i 0)) kept) rest) ≡ (missingAt (parameter spec l list) o then after)
 unfolding parameterAt parameterOf partOf textIn
-missing-asked spec l list none rest after e = e
-missing-asked spec l list (some i) rest after e = missing-style (getD (l .params .styles) i 0) (getD (l .params .names) i 0)
+missing-asked spec l list none kept rest after e = e
+missing-asked spec l list (some i) kept rest after e = missing-style (getD (l .params .styles) i 0) (getD (l .params .names) i 0)
 
 -- ---- the first name of the remainder
 
@@ -77,7 +77,7 @@ first-of area cells (suc n) (y ∷ ys) v ws e = ap firstPayload e
 -- ---- 23 before 24
 
 in-turn : (a b : Bool) (surplus kept payload : ℕ)
-    → judgedAnswer (cond a (Refused (ExtraPositionalArg surplus)) (cond b (Refused (ExtraNamedArg kept payload)) (Fine kept)))
+    → judgedAnswer (firstOf (cond a (Refused (ExtraPositionalArg surplus)) (Fine kept)) (cond b (Refused (ExtraNamedArg kept payload)) (Fine kept)))
     ≡ (cond a (refuse 23 (count surplus)) fine then cond b (refuse 24 (countAndName kept (placeOf callArea payload))) fine)
 in-turn true b surplus kept payload = refl
 in-turn false true surplus kept payload = refl
@@ -92,8 +92,8 @@ module _ (spec : List ℕ) (l : ParametersSpec) (list : Prepared spec l) (cells 
   first-name : (v : Named) (ws : List Named) → namedRemainder qs N ≡ v ∷ ws → v .name .payload ≡ pairAt cells (getD rest 0 0) .payload
   first-name v ws e = first-of area cells kept rest v ws (sym e ∙ r .rest-is)
 
-  pub remainders-asked : judgedAnswer (remaindersAs (l .indices) cells h rest kept) ≡ (askStarRemainder (hasArgs qs) (starRemainder qs P) then askNamedRemainder (hasKwargs qs) (namedRemainder qs N))
-  unfolding remaindersAs
+  pub remainders-asked : judgedAnswer (firstOf (surplusAs (l .indices) h kept) (unknownAs (l .indices) cells rest kept)) ≡ (askStarRemainder (hasArgs qs) (starRemainder qs P) then askNamedRemainder (hasKwargs qs) (namedRemainder qs N))
+  unfolding surplusAs unknownAs
   remainders-asked =
       in-turn (lostTo (h .p + h .s) (l .indices .«num_positional») (indexOf (l .indices .args))) (lostTo kept 0 (indexOf (l .indices .kwargs))) (h .p + h .s - l .indices .«num_positional») kept (pairAt cells (getD rest 0 0) .payload)
       ∙ sym (ap₂ (λ a b. a then b) surplus left)
@@ -113,8 +113,8 @@ module _ (spec : List ℕ) (l : ParametersSpec) (list : Prepared spec l) (cells 
           ∙ named-asked (indexOf (l .indices .kwargs)) (namedRemainder qs N) kept (pairAt cells (getD rest 0 0) .payload) (remainder-length qs cells area N sources rest kept r few) first-name
 
   pub placed-asked : judgedAnswer (placedAs (l .params .codes) (l .params .styles) (l .params .names) (l .params .len) (l .indices) cells h next sources rest kept) ≡ askPlaced qs P N
-  unfolding placedAs askPlaced place
+  unfolding placedAs requiredAs askPlaced place
   placed-asked =
-      missing-asked spec l list (firstMissing (l .params .codes) sources next (l .params .len - next)) (remaindersAs (l .indices) cells h rest kept) (askStarRemainder (hasArgs qs) (starRemainder qs P) then askNamedRemainder (hasKwargs qs) (namedRemainder qs N)) remainders-asked
+      missing-asked spec l list (firstMissing (l .params .codes) sources next (l .params .len - next)) kept (firstOf (surplusAs (l .indices) h kept) (unknownAs (l .indices) cells rest kept)) (askStarRemainder (hasArgs qs) (starRemainder qs P) then askNamedRemainder (hasKwargs qs) (namedRemainder qs N)) remainders-asked
       ∙ ap (λ a. a then askStarRemainder (hasArgs qs) (starRemainder qs P) then askNamedRemainder (hasKwargs qs) (namedRemainder qs N))
       (sym (required-found spec l list cells area P N sources rest kept next upto r h values (length (starRemainder qs P)) (length (namedRemainder qs N))))

@@ -7,7 +7,7 @@ use mathlib.Core.List.{List, [], _∷_, _++_}
 use mathlib.Core.Option.{Option, none, some}
 use Prim.Native.Nat.{ℕ, zero, suc, _+_, _*_, _-_, _≤_}
 use native.Mathlib.Omega.{arith}
-use borrow.Author.Tests.{eq-eqb, ne-eqb}
+use borrow.Author.Tests.{eq-eqb, ne-eqb, eqb-true, eqb-false}
 use lib.Dec.{eqb}
 use lib.ListN.{drop, getD, length-append}
 use Rattle.rules.specs.Text.{Text, textIn}
@@ -31,10 +31,10 @@ use Rattle.findings.specs.Resolved.{namedAt, Resolved}
 use Rattle.findings.specs.Resolve.{pairsFrom}
 use Rattle.findings.specs.Found.{firstNamed, firstMissing}
 use Rattle.findings.specs.EntriesDone.{writtenNames, entryAt, entriesIn, entriesAnswer, EntriesReady, EntriesDone}
-use Rattle.questions.specs.Judge.{lostTo, missingAs, missingOr, remaindersAs, placedAs, judgedAnswer, refusing}
+use Rattle.questions.specs.Judge.{lostTo, missingAs, firstOf, refusedAt, starAs, repeatsAs, requiredAs, surplusAs, unknownAs, placedAs, judgedAnswer, refusing}
 use Rattle.questions.specs.Questions.{askAfterNames, CallReady, Judging}
 use Rattle.answers.specs.declared.answer.Collected.{Collected}
-use Rattle.answers.specs.declared.answer.Collected.the-variants.{RepeatedParameter, ExtraPositionalArg, ExtraNamedArg}
+use Rattle.answers.specs.declared.answer.Collected.the-variants.{ArgsArrayIsNotIterable, RepeatedParameter, ExtraPositionalArg, ExtraNamedArg}
 use Rattle.findings.specs.declared.entries.Entries.{Entries}
 use Rattle.findings.specs.declared.entries.Entries.the-variants.{All}
 use Rattle.questions.specs.declared.judge.Judged.{Judged}
@@ -70,14 +70,14 @@ words-named area cells from qs P before k (suc n) e =
 
 -- ---- the count that 20 to 24 hand on
 
-fine-count : (a b : Bool) (o : Option ℕ) (missing : ℕ → Collected) (x y : Collected) (kept n : ℕ) → missingOr o missing (cond a (Refused x) (cond b (Refused y) (Fine kept))) ≡ Fine n → kept ≡ n
+fine-count : (a b : Bool) (o : Option ℕ) (missing : ℕ → Collected) (x y : Collected) (kept n : ℕ) → firstOf (refusedAt o missing kept) (firstOf (cond a (Refused x) (Fine kept)) (cond b (Refused y) (Fine kept))) ≡ Fine n → kept ≡ n
 fine-count a b (some i) missing x y kept n e = let z : _≡_ {A = ℕ} 0 1 = cc in absurd (omega arith)
 fine-count true b none missing x y kept n e = let z : _≡_ {A = ℕ} 0 1 = cc in absurd (omega arith)
 fine-count false true none missing x y kept n e = let z : _≡_ {A = ℕ} 0 1 = cc in absurd (omega arith)
 fine-count false false none missing x y kept n e = cc
 
 placed-count : (l : ParametersSpec) (cells : List ℕ) (h : Head) (next : ℕ) (sources rest : List ℕ) (kept n : ℕ) → placedAs (l .params .codes) (l .params .styles) (l .params .names) (l .params .len) (l .indices) cells h next sources rest kept ≡ Fine n → kept ≡ n
-unfolding placedAs remaindersAs
+unfolding placedAs requiredAs surplusAs unknownAs
 placed-count l cells h next sources rest kept n e =
     fine-count (lostTo (h .p + h .s) (l .indices .«num_positional») (indexOf (l .indices .args))) (lostTo kept 0 (indexOf (l .indices .kwargs))) (firstMissing (l .params .codes) sources next (l .params .len - next))
     (λ i. missingAs (getD (l .params .styles) i 0) (getD (l .params .names) i 0)) (ExtraPositionalArg (h .p + h .s - l .indices .«num_positional»)) (ExtraNamedArg kept (pairAt cells (getD rest 0 0) .payload)) kept n e
@@ -86,7 +86,7 @@ placed-count l cells h next sources rest kept n e =
 
 -- 20 to 24 hand on no acceptance
 placed-refusing : (l : ParametersSpec) (cells : List ℕ) (h : Head) (next : ℕ) (sources rest : List ℕ) (count : ℕ) → refusing (placedAs (l .params .codes) (l .params .styles) (l .params .names) (l .params .len) (l .indices) cells h next sources rest count) ≡ true
-unfolding placedAs remaindersAs
+unfolding placedAs requiredAs surplusAs unknownAs
 placed-refusing l cells h next sources rest count =
     first (firstMissing (l .params .codes) sources next (l .params .len - next))
     (lostTo (h .p + h .s) (l .indices .«num_positional») (indexOf (l .indices .args))) (lostTo count 0 (indexOf (l .indices .kwargs)))
@@ -98,8 +98,8 @@ placed-refusing l cells h next sources rest count =
 
     first : (o : Option ℕ) (a b : Bool)
         → refusing
-        (missingOr o (λ i. missingAs (getD (l .params .styles) i 0) (getD (l .params .names) i 0))
-        (cond a (Refused (ExtraPositionalArg (h .p + h .s - l .indices .«num_positional»))) (cond b (Refused (ExtraNamedArg count (pairAt cells (getD rest 0 0) .payload))) (Fine count))))
+        (firstOf (refusedAt o (λ i. missingAs (getD (l .params .styles) i 0) (getD (l .params .names) i 0)) count)
+        (firstOf (cond a (Refused (ExtraPositionalArg (h .p + h .s - l .indices .«num_positional»))) (Fine count)) (cond b (Refused (ExtraNamedArg count (pairAt cells (getD rest 0 0) .payload))) (Fine count))))
         ≡ true
     first (some i) a b = styled (getD (l .params .styles) i 0) (getD (l .params .names) i 0)
     first none true b = refl
@@ -128,7 +128,7 @@ module _ (spec : List ℕ) (l : ParametersSpec) (cells area : List ℕ) (h : Hea
   pub entries-ready : (sources rest : List ℕ) (before : ℕ) → Resolved qs cells area (writtenNames area cells h) sources rest before → EntriesReady spec l cells area h next sources rest before
   entries-ready sources rest before resolved = record { list = ready .list; P = P; upto = ready .upto; few = ready .few; keys-formed = ready .keys-formed; written = resolved }
 
-  pub asked-star : h .starKind ≡ 2 → refuse 15 answers.none ≡ askBinding qs c
+  asked-star : h .starKind ≡ 2 → refuse 15 answers.none ≡ askBinding qs c
   unfolding askBinding
   asked-star e = rw (ready .star, eq-eqb (h .starKind) 2 e)
 
@@ -146,12 +146,35 @@ module _ (spec : List ℕ) (l : ParametersSpec) (cells area : List ℕ) (h : Hea
           ∙ repeats-found spec l (ready .list) cells area P (writtenNames area cells h) sources rest before next (ready .upto) r
           ∙ ap (repeatedAt (parameter spec l (ready .list))) e)
 
-      pub asked-repeated : (i : ℕ) → firstNamed sources 0 next ≡ some i → answerIn (RepeatedParameter (getD (l .params .names) i 0)) ≡ askBinding qs c
+      asked-repeated : (i : ℕ) → firstNamed sources 0 next ≡ some i → answerIn (RepeatedParameter (getD (l .params .names) i 0)) ≡ askBinding qs c
       unfolding parameterAt parameterOf partOf textIn
       asked-repeated i e = sym (repeats (some i) e)
 
-      pub asked-names : firstNamed sources 0 next ≡ none → askAfterNames qs c ≡ askBinding qs c
-      asked-names e = sym (repeats none e)
+  module _ (sources rest : List ℕ) (before : ℕ) (r : Resolved qs cells area (writtenNames area cells h) sources rest before) where
+    -- a refusal by 15 or 16 is the call's
+    pub asked-written : (a : Collected) → firstOf (starAs h before) (repeatsAs (l .params .names) next sources before) ≡ Refused a → (isRefusal a ≡ true) × (answerIn a ≡ askBinding qs c)
+    unfolding starAs repeatsAs
+    asked-written a = go (eqb (h .starKind) 2) refl (firstNamed sources 0 next) refl
+      where
+        go : (b : Bool) → eqb (h .starKind) 2 ≡ b → (o : Option ℕ) → firstNamed sources 0 next ≡ o
+            → firstOf (cond b (Refused ArgsArrayIsNotIterable) (Fine before)) (refusedAt o (λ i. RepeatedParameter (getD (l .params .names) i 0)) before) ≡ Refused a
+            → (isRefusal a ≡ true) × (answerIn a ≡ askBinding qs c)
+        go true e o f g = let same : ArgsArrayIsNotIterable ≡ a = cc in subst (λ x. (isRefusal x ≡ true) × (answerIn x ≡ askBinding qs c)) same (refl, asked-star (eqb-true (h .starKind) 2 e))
+        go false e (some i) f g =
+            let same : RepeatedParameter (getD (l .params .names) i 0) ≡ a = cc in
+            subst (λ x. (isRefusal x ≡ true) × (answerIn x ≡ askBinding qs c)) same (refl, asked-repeated (eqb-false (h .starKind) 2 e) sources rest before r i f)
+        go false e none f g = let z : _≡_ {A = ℕ} 0 1 = cc in absurd (omega arith)
+
+    -- where neither refuses, 17 to 24 are left
+    pub asked-names : (n : ℕ) → firstOf (starAs h before) (repeatsAs (l .params .names) next sources before) ≡ Fine n → askAfterNames qs c ≡ askBinding qs c
+    unfolding starAs repeatsAs
+    asked-names n = go (eqb (h .starKind) 2) refl (firstNamed sources 0 next) refl
+      where
+        go : (b : Bool) → eqb (h .starKind) 2 ≡ b → (o : Option ℕ) → firstNamed sources 0 next ≡ o
+            → firstOf (cond b (Refused ArgsArrayIsNotIterable) (Fine before)) (refusedAt o (λ i. RepeatedParameter (getD (l .params .names) i 0)) before) ≡ Fine n → askAfterNames qs c ≡ askBinding qs c
+        go true e o f g = let z : _≡_ {A = ℕ} 0 1 = cc in absurd (omega arith)
+        go false e (some i) f g = let z : _≡_ {A = ℕ} 0 1 = cc in absurd (omega arith)
+        go false e none f g = sym (repeats (eqb-false (h .starKind) 2 e) sources rest before r none f)
 
   -- ---- 17 to 19
 

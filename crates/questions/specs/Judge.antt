@@ -3,7 +3,7 @@ use mathlib.Core.Bool.{Bool, true, false, cond}
 use mathlib.Core.List.{List}
 use mathlib.Core.Option.{Option, none, some}
 use Prim.Native.Nat.{ℕ, zero, suc, _+_, _-_, _≤_}
-use lib.Dec.{ltb}
+use lib.Dec.{ltb, eqb}
 use lib.ListN.{getD}
 use Rattle.rules.specs.Answer.{Answer, fine}
 use Rattle.rules.specs.CallRecord.{Head}
@@ -12,9 +12,9 @@ use Rattle.builder.specs.Spec.{indexOf}
 use Rattle.builder.specs.declared.spec.DefParamIndices.{DefParamIndices}
 use Rattle.calls.specs.Head.{Few}
 use Rattle.answers.specs.Answer.{answerIn, isRefusal}
-use Rattle.findings.specs.Found.{firstMissing}
+use Rattle.findings.specs.Found.{firstNamed, firstMissing}
 use Rattle.answers.specs.declared.answer.Collected.{Collected}
-use Rattle.answers.specs.declared.answer.Collected.the-variants.{MissingPositionalOnly, Missing, MissingNamedOnly, ExtraPositionalArg, ExtraNamedArg}
+use Rattle.answers.specs.declared.answer.Collected.the-variants.{ArgsArrayIsNotIterable, RepeatedParameter, MissingPositionalOnly, Missing, MissingNamedOnly, ExtraPositionalArg, ExtraNamedArg}
 use Rattle.questions.specs.declared.judge.Judged.{Judged}
 use Rattle.questions.specs.declared.judge.Judged.the-variants.{Fine, Refused}
 
@@ -29,20 +29,43 @@ missingAs zero name = MissingPositionalOnly name
 missingAs (suc zero) name = Missing name
 missingAs (suc (suc style)) name = MissingNamedOnly name
 
--- 23, and then 24
-unfoldable pub remaindersAs : DefParamIndices → List ℕ → Head → List ℕ → ℕ → Judged
-remaindersAs indices cells h rest count =
-    cond (lostTo (h .p + h .s) (indices .«num_positional») (indexOf (indices .args))) (Refused (ExtraPositionalArg (h .p + h .s - indices .«num_positional»)))
-    (cond (lostTo count 0 (indexOf (indices .kwargs))) (Refused (ExtraNamedArg count (pairAt cells (getD rest 0 0) .payload))) (Fine count))
+-- the first refusal of two; where there is none, what the second says
+abbrev pub firstOf : Judged → Judged → Judged
+firstOf (Fine n) second = second
+firstOf (Refused a) second = Refused a
 
--- 20 to 22, and then the rest
-abbrev pub missingOr : Option ℕ → (ℕ → Collected) → Judged → Judged
-missingOr none missing rest = rest
-missingOr (some i) missing rest = Refused (missing i)
+-- the refusal for an index, if there is one
+abbrev pub refusedAt : Option ℕ → (ℕ → Collected) → ℕ → Judged
+refusedAt none refusal count = Fine count
+refusedAt (some i) refusal count = Refused (refusal i)
 
+-- 15
+unfoldable pub starAs : Head → ℕ → Judged
+starAs h count = cond (eqb (h .starKind) 2) (Refused ArgsArrayIsNotIterable) (Fine count)
+
+-- 16
+unfoldable pub repeatsAs : List ℕ → ℕ → List ℕ → ℕ → Judged
+repeatsAs names next sources count = refusedAt (firstNamed sources 0 next) (λ i. RepeatedParameter (getD names i 0)) count
+
+-- 20 to 22
+unfoldable pub requiredAs : (codes styles names : List ℕ) (len next : ℕ) → List ℕ → ℕ → Judged
+requiredAs codes styles names len next sources count =
+    refusedAt (firstMissing codes sources next (len - next)) (λ i. missingAs (getD styles i 0) (getD names i 0)) count
+
+-- 23
+unfoldable pub surplusAs : DefParamIndices → Head → ℕ → Judged
+surplusAs indices h count =
+    cond (lostTo (h .p + h .s) (indices .«num_positional») (indexOf (indices .args))) (Refused (ExtraPositionalArg (h .p + h .s - indices .«num_positional»))) (Fine count)
+
+-- 24
+unfoldable pub unknownAs : DefParamIndices → List ℕ → List ℕ → ℕ → Judged
+unknownAs indices cells rest count =
+    cond (lostTo count 0 (indexOf (indices .kwargs))) (Refused (ExtraNamedArg count (pairAt cells (getD rest 0 0) .payload))) (Fine count)
+
+-- 20 to 24
 unfoldable pub placedAs : (codes styles names : List ℕ) (len : ℕ) → DefParamIndices → List ℕ → Head → ℕ → List ℕ → List ℕ → ℕ → Judged
 placedAs codes styles names len indices cells h next sources rest count =
-    missingOr (firstMissing codes sources next (len - next)) (λ i. missingAs (getD styles i 0) (getD names i 0)) (remaindersAs indices cells h rest count)
+    firstOf (requiredAs codes styles names len next sources count) (firstOf (surplusAs indices h count) (unknownAs indices cells rest count))
 
 pub record PlacedReady (len : ℕ) (h : Head) : Type 0 where
   pub room : len ≤ 64

@@ -3,14 +3,15 @@
 // Reworked from starlark 0.14.2, src/eval/runtime/params/spec.rs (collect_slow), Apache-2.0.
 use crate::judge::Judged;
 use crate::judge::ask_placed;
+use crate::judge::ask_repeats;
+use crate::judge::ask_star;
+use crate::judge::first_of;
 use answers::answer::Collected;
 use builder::params::CAPACITY;
 use builder::spec::DefParamIndices;
-use builder::spec::Index;
 use calls::head::Head;
 use findings::entries::Entries;
 use findings::entries::resolve_entries;
-use findings::found::first_named;
 use findings::resolve::NAMED;
 ghost use Rattle.rules.specs.Binding.{askBinding};
 ghost use Rattle.calls.specs.Head.{headOf};
@@ -36,13 +37,11 @@ pub fn judge<'a>(
     requires { ⌜ ListLent (now spec) (now codes) (now styles) (now names) len indices (now cells) (now area) (headOf h) next (writtenNames (now area) (now cells) (headOf h)) (now sources) (now rest) before ⌝ }
     ensures { λ r. ⌜ JudgedLent (now (spec .entry)) (now (codes .entry)) (now (styles .entry)) (now (names .entry)) len indices (now (cells .entry)) (now (area .entry)) (headOf h) next (writtenNames (now (area .entry)) (now (cells .entry)) (headOf h)) (now (sources .entry)) (now (rest .entry)) before askBinding (now (sources .exit)) (now (rest .exit)) r ⌝ }
 {
-    if h.star_kind == 2 {
-        return Judged::Refused(Collected::ArgsArrayIsNotIterable);
-    }
-    let repeated = first_named(sources, next);
-    match repeated {
-        Index::At(i) => Judged::Refused(Collected::RepeatedParameter(names[i])),
-        Index::Absent => after_names(
+    let star = ask_star(h, before);
+    let repeats = ask_repeats(names, next, sources, before);
+    match first_of(star, repeats) {
+        Judged::Refused(refusal) => Judged::Refused(refusal),
+        Judged::Fine(_) => after_names(
             spec,
             codes,
             styles,
