@@ -28,4 +28,9 @@ rust-examples =
       lowest-repeated = refl;
       written-twice = refl;
       slash-twice = refl;
+      made-inside = refl;
+      name-past = refl;
+      args-past = refl;
+      positional-past = refl;
+      slots-few = refl;
     }

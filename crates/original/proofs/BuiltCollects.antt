@@ -1,4 +1,5 @@
--- The list that the Rust's builder finishes, asked by the Rust's collector, ends as `specOf` ends. The two lists differ in the names of *args and
+-- The list that the Rust's builder finishes, asked by the Rust's collector, brings no panic about and ends as `specOf` ends in the total
+-- collector of TotalCollect, of which all here speaks but the last law. The two lists differ in the names of *args and
 -- **kwargs alone, and the collector reads two names: that of the lowest parameter that a written name has found (spec.rs 748-753), and that
 -- of a required parameter that is missing (806).
 -- Assumes nothing.
@@ -22,12 +23,16 @@ use Rattle.rules.specs.ParameterQuestions.{askParameters, listOf}
 use Rattle.rules.proofs.LawsListing.{and-left}
 use Rattle.rules.proofs.LawsParameters.{list-namesApart}
 use Rattle.original.specs.Spec.{isSome, ParametersSpec, specOf, get, symbolsFrom}
-use Rattle.original.specs.Locals.{Held, single, RepeatedArg, MissingPositionalOnly, MissingNamedOnly, Missing, Result, ok, err, _andThen_, usizeMax, Locals}
-use Rattle.original.specs.Arguments.{noText, zipSlots, takeOne, takeEach, takePositionals, nameAt, nameEach, takeStar, testRepeats, entryOne, entryEach, takeDouble}
-use Rattle.original.specs.Collect.{noKind, missingAt, settleEmpty, settleOne, settleEach, settle, setArgs, setKwargs, startLocals, collectSlow, isShort, collectInline}
+use Rattle.original.specs.Locals.{Held, single, RepeatedArg, MissingPositionalOnly, MissingNamedOnly, Missing, Result, ok, err, usizeMax, Locals}
+use Rattle.original.specs.Arguments.{zipSlots}
+use Rattle.original.specs.Collect.{missingAt, startLocals, isShort}
+use Rattle.original.specs.Collect as Rust
 use Rattle.original.specs.Builder.{nameInRust, finishedOf}
+use Rattle.original.proofs.TotalCollect.{noText, noKind, _totalThen_, takeOne, takeEach, takePositionals, nameAt, nameEach, takeStar, testRepeats, entryOne, entryEach, takeDouble, settleEmpty, settleOne, settleEach, settle, setArgs, setKwargs, collectSlow, collectInline}
 use Rattle.original.proofs.LawsSpec.{noParameter, isIndex, get-at, get-within}
 use Rattle.original.proofs.LawsSettled.{getD-map-in}
+use Rattle.original.proofs.LawsInside.{finished-inside}
+use Rattle.original.proofs.LawsTotal.{collect-total}
 use Rattle.original.proofs.LawsBuilder.{plain-name}
 use Rattle.original.proofs.LawsBuilt.{list-few}
 
@@ -117,9 +122,9 @@ module _ (qs : List Parameter) where
 
   same-entries : (es : List Entry) (l : Locals) → entryEach (finishedOf qs) es l ≡ entryEach (specOf qs) es l
   same-entries [] l = refl
-  same-entries (e ∷ es) l = ap (λ r. r andThen entryEach (finishedOf qs) es) (same-entry (e .key) (e .value) l) ∙ go (entryOne (specOf qs) (e .key) (e .value) l) (same-entries es)
+  same-entries (e ∷ es) l = ap (λ r. r totalThen entryEach (finishedOf qs) es) (same-entry (e .key) (e .value) l) ∙ go (entryOne (specOf qs) (e .key) (e .value) l) (same-entries es)
     where
-      go : (r : Result Locals) → ((m : Locals) → entryEach (finishedOf qs) es m ≡ entryEach (specOf qs) es m) → (r andThen entryEach (finishedOf qs) es) ≡ (r andThen entryEach (specOf qs) es)
+      go : (r : Result Locals) → ((m : Locals) → entryEach (finishedOf qs) es m ≡ entryEach (specOf qs) es m) → (r totalThen entryEach (finishedOf qs) es) ≡ (r totalThen entryEach (specOf qs) es)
       go (ok m) later = later m
       go (err x) later = refl
 
@@ -130,7 +135,7 @@ module _ (qs : List Parameter) where
 
   -- ---- what is missing
 
-  same-missing : (k : ℕ) → PlainAt qs k → missingAt (finishedOf qs) k ≡ missingAt (specOf qs) k
+  same-missing : (k : ℕ) → PlainAt qs k → missingAt (finishedOf qs) k (getD (finishedOf qs .paramNames) k noText .bytes) ≡ missingAt (specOf qs) k (getD (specOf qs .paramNames) k noText .bytes)
   unfolding missingAt finishedOf specOf
   same-missing k p =
       ap (λ (t : Text). cond (ltb k (positionalOnlyCount qs)) (MissingPositionalOnly (t .bytes)) (cond (leb (positionalCount qs) k) (MissingNamedOnly (t .bytes)) (Missing (t .bytes)))) (same-name qs k p)
@@ -148,16 +153,16 @@ module _ (qs : List Parameter) where
 
   same-settle : (k count : ℕ) (slots : List (Option Held)) → settleEach (finishedOf qs) k count slots ≡ settleEach (specOf qs) k count slots
   same-settle k zero slots = refl
-  same-settle k (suc count) slots = ap (λ r. r andThen settleEach (finishedOf qs) (suc k) count) (same-settled k slots) ∙ go (settleOne (specOf qs) k slots) (same-settle (suc k) count)
+  same-settle k (suc count) slots = ap (λ r. r totalThen settleEach (finishedOf qs) (suc k) count) (same-settled k slots) ∙ go (settleOne (specOf qs) k slots) (same-settle (suc k) count)
     where
       go : (r : Result (List (Option Held))) → ((s : List (Option Held)) → settleEach (finishedOf qs) (suc k) count s ≡ settleEach (specOf qs) (suc k) count s)
-          → (r andThen settleEach (finishedOf qs) (suc k) count) ≡ (r andThen settleEach (specOf qs) (suc k) count)
+          → (r totalThen settleEach (finishedOf qs) (suc k) count) ≡ (r totalThen settleEach (specOf qs) (suc k) count)
       go (ok s) later = later s
       go (err x) later = refl
 
   same-settle-all : (l : Locals) → settle (finishedOf qs) l ≡ settle (specOf qs) l
   unfolding settle finishedOf
-  same-settle-all l = ap (λ (r : Result (List (Option Held))). r andThen kept) (same-settle (l .nextPosition) (length (specOf qs .paramKinds) - l .nextPosition) (l .slots))
+  same-settle-all l = ap (λ (r : Result (List (Option Held))). r totalThen kept) (same-settle (l .nextPosition) (length (specOf qs .paramKinds) - l .nextPosition) (l .slots))
     where
       kept : List (Option Held) → Result Locals
       kept after = ok (record { slots = after; starArgs = l .starArgs; kwargs = l .kwargs; nextPosition = l .nextPosition; lowestName = l .lowestName })
@@ -191,7 +196,7 @@ module _ (qs : List Parameter) (apart : namesApart [] qs ≡ true) where
   unfolding testRepeats finishedOf specOf
   same-tested l p = ap (λ (t : Text). cond (ltb (l .lowestName) (l .nextPosition)) (err (RepeatedArg (t .bytes))) (ok l)) (same-name qs (l .lowestName) p)
 
-  same-repeats : (x : Star) (l : Locals) → PlainAt qs (l .lowestName) → (takeStar (finishedOf qs) x l andThen testRepeats (finishedOf qs)) ≡ (takeStar (specOf qs) x l andThen testRepeats (specOf qs))
+  same-repeats : (x : Star) (l : Locals) → PlainAt qs (l .lowestName) → (takeStar (finishedOf qs) x l totalThen testRepeats (finishedOf qs)) ≡ (takeStar (specOf qs) x l totalThen testRepeats (specOf qs))
   same-repeats noStar l p = same-tested l p
   same-repeats (iterable vs) l p =
       ap (testRepeats (finishedOf qs)) (same-each qs vs l) ∙ same-tested (takeEach (specOf qs) vs l) (subst (PlainAt qs) (sym (lowest-each (specOf qs) vs l)) p)
@@ -211,27 +216,27 @@ module _ (qs : List Parameter) (apart : namesApart [] qs ≡ true) where
 
   -- what comes after the repeats reads no name but of what is missing
   same-rest : (c : Call) (r : Result Locals)
-      → (r andThen takeDouble (finishedOf qs) (c .double) andThen settle (finishedOf qs) andThen setArgs (finishedOf qs .args) andThen setKwargs (finishedOf qs .kwargs))
-      ≡ (r andThen takeDouble (specOf qs) (c .double) andThen settle (specOf qs) andThen setArgs (specOf qs .args) andThen setKwargs (specOf qs .kwargs))
+      → (r totalThen takeDouble (finishedOf qs) (c .double) totalThen settle (finishedOf qs) totalThen setArgs (finishedOf qs .args) totalThen setKwargs (finishedOf qs .kwargs))
+      ≡ (r totalThen takeDouble (specOf qs) (c .double) totalThen settle (specOf qs) totalThen setArgs (specOf qs .args) totalThen setKwargs (specOf qs .kwargs))
   unfolding finishedOf
   same-rest c (err e) = refl
   same-rest c (ok l) =
-      ap (λ (r : Result Locals). r andThen settle (finishedOf qs) andThen setArgs (specOf qs .args) andThen setKwargs (specOf qs .kwargs)) (same-double qs (c .double) l)
+      ap (λ (r : Result Locals). r totalThen settle (finishedOf qs) totalThen setArgs (specOf qs .args) totalThen setKwargs (specOf qs .kwargs)) (same-double qs (c .double) l)
       ∙ go (takeDouble (specOf qs) (c .double) l)
     where
-      go : (r : Result Locals) → (r andThen settle (finishedOf qs) andThen setArgs (specOf qs .args) andThen setKwargs (specOf qs .kwargs)) ≡ (r andThen settle (specOf qs) andThen setArgs (specOf qs .args) andThen setKwargs (specOf qs .kwargs))
+      go : (r : Result Locals) → (r totalThen settle (finishedOf qs) totalThen setArgs (specOf qs .args) totalThen setKwargs (specOf qs .kwargs)) ≡ (r totalThen settle (specOf qs) totalThen setArgs (specOf qs .args) totalThen setKwargs (specOf qs .kwargs))
       go (err e) = refl
-      go (ok m) = ap (λ (r : Result Locals). r andThen setArgs (specOf qs .args) andThen setKwargs (specOf qs .kwargs)) (same-settle-all qs m)
+      go (ok m) = ap (λ (r : Result Locals). r totalThen setArgs (specOf qs .args) totalThen setKwargs (specOf qs .kwargs)) (same-settle-all qs m)
 
   same-slow : length qs ≤ usizeMax → (c : Call) (slots : List (Option Held)) → collectSlow (finishedOf qs) c slots ≡ collectSlow (specOf qs) c slots
   unfolding collectSlow
-  same-slow few c slots = ap (λ (r : Result Locals). (r andThen takeDouble (finishedOf qs) (c .double) andThen settle (finishedOf qs) andThen setArgs (finishedOf qs .args) andThen setKwargs (finishedOf qs .kwargs))) repeats ∙ same-rest c (takeStar (specOf qs) (c .star) l andThen testRepeats (specOf qs))
+  same-slow few c slots = ap (λ (r : Result Locals). (r totalThen takeDouble (finishedOf qs) (c .double) totalThen settle (finishedOf qs) totalThen setArgs (finishedOf qs .args) totalThen setKwargs (finishedOf qs .kwargs))) repeats ∙ same-rest c (takeStar (specOf qs) (c .star) l totalThen testRepeats (specOf qs))
     where
       l : Locals
       l = nameEach (specOf qs) (c .named) (takePositionals (specOf qs) (c .positionals) (startLocals slots))
 
-      repeats : (takeStar (finishedOf qs) (c .star) (nameEach (finishedOf qs) (c .named) (takePositionals (finishedOf qs) (c .positionals) (startLocals slots))) andThen testRepeats (finishedOf qs)) ≡ (takeStar (specOf qs) (c .star) l andThen testRepeats (specOf qs))
-      repeats = ap (λ (m : Locals). takeStar (finishedOf qs) (c .star) m andThen testRepeats (finishedOf qs)) (same-locals c slots) ∙ same-repeats (c .star) l (start-plain few c slots)
+      repeats : (takeStar (finishedOf qs) (c .star) (nameEach (finishedOf qs) (c .named) (takePositionals (finishedOf qs) (c .positionals) (startLocals slots))) totalThen testRepeats (finishedOf qs)) ≡ (takeStar (specOf qs) (c .star) l totalThen testRepeats (specOf qs))
+      repeats = ap (λ (m : Locals). takeStar (finishedOf qs) (c .star) m totalThen testRepeats (finishedOf qs)) (same-locals c slots) ∙ same-repeats (c .star) l (start-plain few c slots)
 
   same-inline : length qs ≤ usizeMax → (c : Call) → collectInline (finishedOf qs) c ≡ collectInline (specOf qs) c
   unfolding collectInline isShort finishedOf
@@ -240,6 +245,8 @@ module _ (qs : List Parameter) (apart : namesApart [] qs ≡ true) where
       slots : List (Option Held)
       slots = replicate (length (specOf qs .paramKinds)) none
 
--- of a list that passes 1 to 8, with a limit that a `usize` can count, and any call
-pub collect-built : (A : ℕ) (cells area : List ℕ) → A ≤ usizeMax → askParameters A cells area ≡ fine → (c : Call) → collectInline (finishedOf (listOf cells area)) c ≡ collectInline (specOf (listOf cells area)) c
-collect-built A cells area small passes c = same-inline (listOf cells area) (list-namesApart A cells area passes) (omega (arith, list-few A cells area passes)) c
+-- of a list that passes 1 to 8, with a limit that a `usize` can count, and any call: the Rust does not panic, and ends as the total collector does
+pub collect-built : (A : ℕ) (cells area : List ℕ) → A ≤ usizeMax → askParameters A cells area ≡ fine → (c : Call) → Rust.collectInline (finishedOf (listOf cells area)) c ≡ some (collectInline (specOf (listOf cells area)) c)
+collect-built A cells area small passes c =
+    collect-total (finishedOf (listOf cells area)) (finished-inside (listOf cells area)) c
+    ∙ ap some (same-inline (listOf cells area) (list-namesApart A cells area passes) (omega (arith, list-few A cells area passes)) c)

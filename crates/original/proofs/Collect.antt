@@ -1,5 +1,6 @@
 -- The Rust's collector against 01: over every parameter record that passes 1 to 8 and every call record that passes 9 to 13,
--- `collect_inline_impl` ends as questions 15 to 24 and the placement say, with each name read in its area.
+-- `collect_inline_impl` ends as questions 15 to 24 and the placement say, with each name read in its area. It is read as TotalCollect has it;
+-- that it doesn't panic over such a list is `collect-built`.
 -- Assumes nothing.
 use mathlib.Core.Path.{_≡_, refl, sym, ap, _∙_}
 use mathlib.Core.Bool.{Bool, true, false, cond}
@@ -26,8 +27,8 @@ use Rattle.rules.proofs.LawsAnswer.{then-left, then-right, then-fine, ask-true}
 use Rattle.rules.proofs.LawsParameters.{list-positionalFirst, list-namesApart}
 use Rattle.original.specs.Spec.{specOf}
 use Rattle.original.specs.Locals.{Held, Result, ok, usizeMax}
-use Rattle.original.specs.Collect.{collectInline}
 use Rattle.original.specs.Ending.{partBytes, heldIn, ends, ending, outcomeEnds, collectionEnding}
+use Rattle.original.proofs.TotalCollect.{collectInline}
 use Rattle.original.proofs.LawsSpec.{noParameter}
 use Rattle.original.proofs.LawsEnds.{readsParameter, readsNamed}
 use Rattle.original.proofs.LawsBuilt.{list-onlyFirst, list-oneArgs, list-oneKwargs, list-few}

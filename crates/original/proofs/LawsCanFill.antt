@@ -2,7 +2,7 @@
 -- end. How often a slot is filled is 0 or 1 for what is filled so far, and one more for each name still to come that is its parameter's:
 -- that count stays the same from turn to turn, until a turn returns false.
 -- Assumes nothing.
-use mathlib.Core.Path.{_≡_, refl, sym, ap, ap₂, _∙_}
+use mathlib.Core.Path.{_≡_, refl, sym, ap, ap₂, subst, _∙_}
 use mathlib.Core.Bool.{Bool, true, false, cond, not, _&&_, _||_, false≢true, true≢false}
 use mathlib.Core.List.{List, [], _∷_, map}
 use mathlib.Core.Option.{Option, none, some}
@@ -20,16 +20,19 @@ use Rattle.rules.specs.Lookup.{names, known}
 use Rattle.rules.specs.Passed.{namesApart}
 use Rattle.rules.proofs.LawsListing.{or-left, or-right, or-neither, anyFrom-same, anyFrom-none}
 use Rattle.original.specs.Spec.{isSome, isNone, ParametersSpec, get, symbolsFrom, specOf}
-use Rattle.original.specs.CanFill.{unlessReturned, thenNames, fillPositions, fillName, fillNames, noneMissing}
+use Rattle.original.specs.Builder.{next}
+use Rattle.original.specs.Slices.{storeAt}
+use Rattle.original.specs.CanFill.{Loop, returnsFalse, goesOn, unlessReturned, thenNames, fillPositions, fillAt, fillName, fillNames, noneMissing}
 use Rattle.original.proofs.LawsSpec.{get-known, isIndex, get-at, get-within, kwargs-some}
 use Rattle.original.proofs.LawsSlots.{shift}
+use Rattle.original.proofs.LawsInside.{read-inside, store-inside}
 
 -- ---- the loop over positions
 
 -- the loop has filled the first slots, up to the positional count
-pub record Positioned (slots num to : ℕ) (loop : Option (List Bool)) : Type 0 where
+pub record Positioned (slots num to : ℕ) (loop : Option Loop) : Type 0 where
   pub filled : List Bool
-  pub ends : loop ≡ some filled
+  pub ends : loop ≡ some (goesOn filled)
   pub long : length filled ≡ slots
   pub first : (k : ℕ) → k < slots → getD filled k false ≡ ltb k (min to num)
 
@@ -59,24 +62,29 @@ module _ (self : ParametersSpec) (slots : ℕ) (within : self .numPositional ≤
 
       go : (b : Bool) → ltb p num ≡ b
           → ((f : List Bool) → length f ≡ slots → ((k : ℕ) → k < slots → getD f k false ≡ ltb k (min (suc p) num)) → (leb to num || isSome (self .args)) ≡ true → Positioned slots num to (fillPositions self (suc p) left f))
-          → Positioned slots num to (cond b (fillPositions self (suc p) left (set filled p true)) (cond (isSome (self .args)) (fillPositions self (suc p) left filled) none))
-      go true e ih = ih (set filled p true) (length-set filled p true ∙ long) (λ k h. one-more (ltb-true p num e) k h (eqb p k) refl) room
+          → Positioned slots num to (cond b (next (storeAt filled p true) (fillPositions self (suc p) left)) (cond (isSome (self .args)) (fillPositions self (suc p) left filled) (some returnsFalse)))
+      go true e ih =
+          subst (λ o. Positioned slots num to (next o (fillPositions self (suc p) left))) (sym (store-inside filled p true (omega (arith, ltb-true p num e))))
+          (ih (set filled p true) (length-set filled p true ∙ long) (λ k h. one-more (ltb-true p num e) k h (eqb p k) refl) room)
       go false e ih = starred (isSome (self .args)) refl
         where
-          starred : (a : Bool) → isSome (self .args) ≡ a → Positioned slots num to (cond a (fillPositions self (suc p) left filled) none)
+          starred : (a : Bool) → isSome (self .args) ≡ a → Positioned slots num to (cond a (fillPositions self (suc p) left filled) (some returnsFalse))
           starred true t = ih filled long (past (ltb-false p num e)) room
           starred false t = absurd (false≢true (sym (or-neither (leb to num) (isSome (self .args)) (lt-leb to num (omega (arith, ltb-false p num e))) t) ∙ room))
 
   -- others make it return
-  pub positions-return : (left p to : ℕ) (filled : List Bool) → p + left ≡ to → p ≤ self .numPositional → (leb to (self .numPositional) || isSome (self .args)) ≡ false → fillPositions self p left filled ≡ none
-  positions-return zero p to filled upto few room = absurd (true≢false (sym (le-leb to (self .numPositional) (omega arith)) ∙ or-left (leb to (self .numPositional)) (isSome (self .args)) room))
-  positions-return (suc left) p to filled upto few room = go (ltb p (self .numPositional)) refl (λ f. positions-return left (suc p) to f (omega arith))
+  pub positions-return : (left p to : ℕ) (filled : List Bool) → p + left ≡ to → length filled ≡ slots → p ≤ self .numPositional → (leb to (self .numPositional) || isSome (self .args)) ≡ false
+      → fillPositions self p left filled ≡ some returnsFalse
+  positions-return zero p to filled upto long few room = absurd (true≢false (sym (le-leb to (self .numPositional) (omega arith)) ∙ or-left (leb to (self .numPositional)) (isSome (self .args)) room))
+  positions-return (suc left) p to filled upto long few room = go (ltb p (self .numPositional)) refl (λ f. positions-return left (suc p) to f (omega arith))
     where
       go : (b : Bool) → ltb p (self .numPositional) ≡ b
-          → ((f : List Bool) → suc p ≤ self .numPositional → (leb to (self .numPositional) || isSome (self .args)) ≡ false → fillPositions self (suc p) left f ≡ none)
-          → cond b (fillPositions self (suc p) left (set filled p true)) (cond (isSome (self .args)) (fillPositions self (suc p) left filled) none) ≡ none
-      go true e ih = ih (set filled p true) (ltb-true p (self .numPositional) e) room
-      go false e ih = ap (λ a. cond a (fillPositions self (suc p) left filled) none) (or-right (leb to (self .numPositional)) (isSome (self .args)) room)
+          → ((f : List Bool) → length f ≡ slots → suc p ≤ self .numPositional → (leb to (self .numPositional) || isSome (self .args)) ≡ false → fillPositions self (suc p) left f ≡ some returnsFalse)
+          → cond b (next (storeAt filled p true) (fillPositions self (suc p) left)) (cond (isSome (self .args)) (fillPositions self (suc p) left filled) (some returnsFalse)) ≡ some returnsFalse
+      go true e ih =
+          ap (λ o. next o (fillPositions self (suc p) left)) (store-inside filled p true (omega (arith, ltb-true p (self .numPositional) e)))
+          ∙ ih (set filled p true) (length-set filled p true ∙ long) (ltb-true p (self .numPositional) e) room
+      go false e ih = ap (λ a. cond a (fillPositions self (suc p) left filled) (some returnsFalse)) (or-right (leb to (self .numPositional)) (isSome (self .args)) room)
 
 -- ---- the loop over slots and kinds
 
@@ -137,6 +145,10 @@ countOf filled written k q = cond (getD filled k false) 1 0 + tally (λ n. names
 abbrev pub fitting : List Parameter → List (List ℕ) → Bool
 fitting qs written = all (known qs) written || hasKwargs qs
 
+-- the answer after the loop over the names
+abbrev pub answerAfter : List Parameter → Option Loop → Option Bool
+answerAfter qs o = unlessReturned o (λ g. some (noneMissing g (map (λ q. q .kind) qs)))
+
 module _ (qs : List Parameter) (d : Parameter) where
   pub same-counts : (f g : ℕ → Parameter → ℕ) (fit : Bool) → ((k : ℕ) → k < length qs → f k (getD qs k d) ≡ g k (getD qs k d)) → fillsOnce qs f fit ≡ fillsOnce qs g fit
   same-counts f g fit e =
@@ -160,12 +172,14 @@ module _ (qs : List Parameter) (d : Parameter) where
   module _ (apart : namesApart [] qs ≡ true) (b : List ℕ) (bs : List (List ℕ)) (filled : List Bool) (long : length filled ≡ length qs) where
     -- what is to be shown after this name
     abbrev Later : Type 0
-    Later = (f : List Bool) → length f ≡ length qs → unlessReturned (fillNames (specOf qs) bs f) (λ g. noneMissing g (map (λ q. q .kind) qs)) ≡ fillsOnce qs (countOf f bs) (fitting qs bs)
+    Later = (f : List Bool) → length f ≡ length qs → answerAfter qs (fillNames (specOf qs) bs f) ≡ some (fillsOnce qs (countOf f bs) (fitting qs bs))
 
     -- a name of a parameter: its slot is filled already, and so twice with it, or is filled now
     turn-found : (i : ℕ) → get (symbolsFrom 0 qs) b ≡ some i → Later
-        → unlessReturned (thenNames (fillName (specOf qs) (some i) filled) (fillNames (specOf qs) bs)) (λ g. noneMissing g (map (λ q. q .kind) qs)) ≡ fillsOnce qs (countOf filled (b ∷ bs)) (fitting qs (b ∷ bs))
-    turn-found i e later = go (getD filled i false) refl
+        → answerAfter qs (thenNames (fillName (specOf qs) (some i) filled) (fillNames (specOf qs) bs)) ≡ some (fillsOnce qs (countOf filled (b ∷ bs)) (fitting qs (b ∷ bs)))
+    turn-found i e later =
+        ap (λ o. answerAfter qs (thenNames (next o (λ already. fillAt i already filled)) (fillNames (specOf qs) bs))) (read-inside filled i false (omega (arith, within)))
+        ∙ go (getD filled i false) refl
       where
         within : i < length qs
         within = get-within qs b i e
@@ -200,16 +214,16 @@ module _ (qs : List Parameter) (d : Parameter) where
         fits = ap (λ c. c && all (known qs) bs || hasKwargs qs) (sym (sym (get-known qs b) ∙ ap isSome e))
 
         go : (c : Bool) → getD filled i false ≡ c
-            → unlessReturned (thenNames (cond c none (some (set filled i true))) (fillNames (specOf qs) bs)) (λ g. noneMissing g (map (λ q. q .kind) qs)) ≡ fillsOnce qs (countOf filled (b ∷ bs)) (fitting qs (b ∷ bs))
-        go true t = sym (twice-no (countOf filled (b ∷ bs)) (fitting qs (b ∷ bs)) i within (twice t))
+            → answerAfter qs (thenNames (fillAt i c filled) (fillNames (specOf qs) bs)) ≡ some (fillsOnce qs (countOf filled (b ∷ bs)) (fitting qs (b ∷ bs)))
+        go true t = ap some (sym (twice-no (countOf filled (b ∷ bs)) (fitting qs (b ∷ bs)) i within (twice t)))
         go false t =
-            later (set filled i true) (length-set filled i true ∙ long)
-            ∙ same-counts (countOf (set filled i true) bs) (countOf filled (b ∷ bs)) (fitting qs bs) (moved t)
-            ∙ ap (fillsOnce qs (countOf filled (b ∷ bs))) fits
+            ap (λ o. answerAfter qs (thenNames (next o (λ after. some (goesOn after))) (fillNames (specOf qs) bs))) (store-inside filled i true (omega (arith, within)))
+            ∙ later (set filled i true) (length-set filled i true ∙ long)
+            ∙ ap some (same-counts (countOf (set filled i true) bs) (countOf filled (b ∷ bs)) (fitting qs bs) (moved t) ∙ ap (fillsOnce qs (countOf filled (b ∷ bs))) fits)
 
     -- a name of none: it changes no slot, and without **kwargs the answer is no
     turn-unknown : get (symbolsFrom 0 qs) b ≡ none → Later
-        → unlessReturned (thenNames (fillName (specOf qs) none filled) (fillNames (specOf qs) bs)) (λ g. noneMissing g (map (λ q. q .kind) qs)) ≡ fillsOnce qs (countOf filled (b ∷ bs)) (fitting qs (b ∷ bs))
+        → answerAfter qs (thenNames (fillName (specOf qs) none filled) (fillNames (specOf qs) bs)) ≡ some (fillsOnce qs (countOf filled (b ∷ bs)) (fitting qs (b ∷ bs)))
     unfolding specOf
     turn-unknown e later = go (kwargsIndex qs) refl
       where
@@ -229,20 +243,20 @@ module _ (qs : List Parameter) (d : Parameter) where
             or-true false = refl
 
         go : (o : Option ℕ) → kwargsIndex qs ≡ o
-            → unlessReturned (thenNames (cond (isNone o) none (some filled)) (fillNames (specOf qs) bs)) (λ g. noneMissing g (map (λ q. q .kind) qs)) ≡ fillsOnce qs (countOf filled (b ∷ bs)) (fitting qs (b ∷ bs))
-        go none t = sym (ap (fillsOnce qs (countOf filled (b ∷ bs))) (fit none t) ∙ unfit-no (countOf filled (b ∷ bs)))
+            → answerAfter qs (thenNames (cond (isNone o) (some returnsFalse) (some (goesOn filled))) (fillNames (specOf qs) bs)) ≡ some (fillsOnce qs (countOf filled (b ∷ bs)) (fitting qs (b ∷ bs)))
+        go none t = ap some (sym (ap (fillsOnce qs (countOf filled (b ∷ bs))) (fit none t) ∙ unfit-no (countOf filled (b ∷ bs))))
         go (some k) t =
             later filled long
-            ∙ same-counts (countOf filled bs) (countOf filled (b ∷ bs)) (fitting qs bs) unnamed
-            ∙ ap (fillsOnce qs (countOf filled (b ∷ bs))) (lets (some k) t refl ∙ sym (fit (some k) t))
+            ∙ ap some (same-counts (countOf filled bs) (countOf filled (b ∷ bs)) (fitting qs bs) unnamed ∙ ap (fillsOnce qs (countOf filled (b ∷ bs))) (lets (some k) t refl ∙ sym (fit (some k) t)))
 
   -- the loop over the names and the one after it answer by the counts of what is filled before them
   pub names-end : namesApart [] qs ≡ true → (written : List (List ℕ)) (filled : List Bool) → length filled ≡ length qs
-      → unlessReturned (fillNames (specOf qs) written filled) (λ g. noneMissing g (map (λ q. q .kind) qs)) ≡ fillsOnce qs (countOf filled written) (fitting qs written)
+      → answerAfter qs (fillNames (specOf qs) written filled) ≡ some (fillsOnce qs (countOf filled written) (fitting qs written))
   unfolding specOf
   names-end apart [] filled long =
-      missing-any (λ k. getD filled k false) 0 qs filled long (λ k h. ap (λ n. getD filled n false) (sym (zero-add k)))
-      ∙ ap₂ (λ a b. not a && true && not b) (sym none-twice) (sym none-counted)
+      ap some
+      (missing-any (λ k. getD filled k false) 0 qs filled long (λ k h. ap (λ n. getD filled n false) (sym (zero-add k)))
+      ∙ ap₂ (λ a b. not a && true && not b) (sym none-twice) (sym none-counted))
     where
       none-twice : anyFrom (λ k q. ltb 1 (cond (getD filled k false) 1 0 + 0)) 0 qs ≡ false
       none-twice = anyFrom-none (λ k q. ltb 1 (cond (getD filled k false) 1 0 + 0)) (λ k q. go (getD filled k false)) 0 qs
@@ -260,7 +274,7 @@ module _ (qs : List Parameter) (d : Parameter) where
   names-end apart (b ∷ bs) filled long = go (get (symbolsFrom 0 qs) b) refl (names-end apart bs)
     where
       go : (o : Option ℕ) → get (symbolsFrom 0 qs) b ≡ o
-          → ((f : List Bool) → length f ≡ length qs → unlessReturned (fillNames (specOf qs) bs f) (λ g. noneMissing g (map (λ q. q .kind) qs)) ≡ fillsOnce qs (countOf f bs) (fitting qs bs))
-          → unlessReturned (thenNames (fillName (specOf qs) o filled) (fillNames (specOf qs) bs)) (λ g. noneMissing g (map (λ q. q .kind) qs)) ≡ fillsOnce qs (countOf filled (b ∷ bs)) (fitting qs (b ∷ bs))
+          → ((f : List Bool) → length f ≡ length qs → answerAfter qs (fillNames (specOf qs) bs f) ≡ some (fillsOnce qs (countOf f bs) (fitting qs bs)))
+          → answerAfter qs (thenNames (fillName (specOf qs) o filled) (fillNames (specOf qs) bs)) ≡ some (fillsOnce qs (countOf filled (b ∷ bs)) (fitting qs (b ∷ bs)))
       go (some i) e later = turn-found apart b bs filled long i e later
       go none e later = turn-unknown apart b bs filled long e later

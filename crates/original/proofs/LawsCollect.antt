@@ -1,5 +1,5 @@
 -- The collector whole: for a list whose positional and positional-only parameters come first, whose nameable names differ and which has *args
--- and **kwargs at most once, and for a call whose written names differ, `collect_inline_impl` ends as 15 to 24 answer.
+-- and **kwargs at most once, and for a call whose written names differ, `collect_inline_impl`, as TotalCollect has it, ends as 15 to 24 answer.
 -- Assumes nothing.
 use mathlib.Core.Path.{_≡_, refl, sym, ap, ap₂, subst, _∙_}
 use mathlib.Core.Bool.{Bool, true, false, cond, not, _&&_, false≢true, true≢false}
@@ -26,10 +26,11 @@ use Rattle.rules.proofs.LawsPlacement.{isSome as isGiven, partner-some}
 use Rattle.rules.proofs.LawsFound.{fromP-at}
 use Rattle.rules.proofs.LawsShort.{place-short, binding-short}
 use Rattle.original.specs.Spec.{specOf}
-use Rattle.original.specs.Locals.{Held, single, tuple, Result, ok, _andThen_, usizeMax, Locals}
-use Rattle.original.specs.Arguments.{zipSlots, takeEach, takePositionals, nameEach, takeStar, testRepeats, takeDouble}
-use Rattle.original.specs.Collect.{settle, setArgs, setKwargs, startLocals, collectSlow, starIsNone, doubleIsNone, isShort, collectInline}
+use Rattle.original.specs.Locals.{Held, single, tuple, Result, ok, usizeMax, Locals}
+use Rattle.original.specs.Arguments.{zipSlots}
+use Rattle.original.specs.Collect.{startLocals, starIsNone, doubleIsNone, isShort}
 use Rattle.original.specs.Ending.{ends, errorOf, heldIn}
+use Rattle.original.proofs.TotalCollect.{_totalThen_, takeEach, takePositionals, nameEach, takeStar, testRepeats, takeDouble, settle, setArgs, setKwargs, collectSlow, collectInline}
 use Rattle.original.proofs.LawsInside.{kinds-all}
 use Rattle.original.proofs.LawsSlots.{shift, mapFrom-same₀, comeFirst, once}
 use Rattle.original.proofs.LawsPositional.{same-locals, heldBelow, take-positionals, overBetween, take-items}
@@ -256,16 +257,16 @@ module _ (read : Part → List ℕ) (qs : List Parameter) (d : Parameter) (c : C
       a₄ = a₃ then askStarRemainder (hasArgs qs) (starRemainder qs P)
 
       x₁ : Result Locals
-      x₁ = takeStar (specOf qs) (c .star) afterWritten andThen testRepeats (specOf qs)
+      x₁ = takeStar (specOf qs) (c .star) afterWritten totalThen testRepeats (specOf qs)
 
       x₂ : Result Locals
-      x₂ = x₁ andThen takeDouble (specOf qs) (c .double)
+      x₂ = x₁ totalThen takeDouble (specOf qs) (c .double)
 
       x₃ : Result Locals
-      x₃ = x₂ andThen settle (specOf qs)
+      x₃ = x₂ totalThen settle (specOf qs)
 
       x₄ : Result Locals
-      x₄ = x₃ andThen setArgs (specOf qs .args)
+      x₄ = x₃ totalThen setArgs (specOf qs .args)
 
   -- ---- the short path
 

@@ -12,16 +12,17 @@ use Rattle.rules.specs.Answer.{Answer, fine, refuse, _then_, Part, partOf, spec
 use Rattle.rules.specs.CallRecord.{Named}
 use Rattle.rules.specs.Parameters.{Parameter}
 use Rattle.rules.proofs.LawsListing.{and-left, and-right, and-both}
-use Rattle.original.specs.Locals.{FunctionError, Result, ok, _andThen_}
+use Rattle.original.specs.Locals.{FunctionError, Result, ok}
 use Rattle.original.specs.Ending.{ends, failing, errorOf}
+use Rattle.original.proofs.TotalCollect.{_totalThen_}
 
 abbrev onwards : {X Y : Type 0} → Option (Result X) → (X → Result Y) → Option (Result Y)
 onwards none f = none
-onwards (some x) f = some (x andThen f)
+onwards (some x) f = some (x totalThen f)
 
 module _ (read : Part → List ℕ) (named : List Named) where
   pub ends-then : {X Y : Type 0} (x : Result X) (f : X → Result Y) (a b : Answer) (s : X) (r : Result Y) → some x ≡ ends read named a (ok s)
-      → (a ≡ fine → some (f s) ≡ ends read named b r) → some (x andThen f) ≡ ends read named (a then b) r
+      → (a ≡ fine → some (f s) ≡ ends read named b r) → some (x totalThen f) ≡ ends read named (a then b) r
   ends-then x f fine b s r e g = ap (λ o. onwards o f) e ∙ g refl
   ends-then {Y = Y} x f (refuse n d) b s r e g = ap (λ o. onwards o f) e ∙ stays (errorOf read named n d)
     where

@@ -27,8 +27,8 @@ use Rattle.rules.proofs.LawsPlacement.{isSome as isGiven, partner-some}
 use Rattle.rules.proofs.LawsFound.{isAt, isFound, isBelow, known-found, names-filled, among-named, among-unknown}
 use Rattle.original.specs.Spec.{isSome, specOf}
 use Rattle.original.specs.Locals.{Held, single, RepeatedArg, ok, err, Locals, holdsKey, insertHashed, insertRepeats, insert}
-use Rattle.original.specs.Arguments.{entryRepeats, entryAfter, entryAt, entryOne, entryEach}
 use Rattle.original.specs.Ending.{ends, errorOf}
+use Rattle.original.proofs.TotalCollect.{entryRepeats, entryAfter, entryAt, entryOne, entryEach}
 use Rattle.original.proofs.LawsSlots.{mapFrom-same₀, getD-mapFrom}
 use Rattle.original.proofs.LawsPositional.{same-locals}
 use Rattle.original.proofs.LawsSpec.{indexFound, get-from, Short, found-short}

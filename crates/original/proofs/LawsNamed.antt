@@ -27,7 +27,7 @@ use Rattle.rules.proofs.LawsPlacement.{isSome, partner-some}
 use Rattle.rules.proofs.LawsFound.{isAt, isFound, known-found, names-at, among-named, orElse, partner-snoc, keep-snoc}
 use Rattle.original.specs.Spec.{get, specOf}
 use Rattle.original.specs.Locals.{Held, single, Locals, insertUniqueUnchecked}
-use Rattle.original.specs.Arguments.{nameAt, nameEach}
+use Rattle.original.proofs.TotalCollect.{nameAt, nameEach}
 use Rattle.original.proofs.LawsSpec.{indexFound, get-from}
 use Rattle.original.proofs.LawsSlots.{mapFrom-same₀, set-mapFrom₀}
 use Rattle.original.proofs.LawsPositional.{same-locals}

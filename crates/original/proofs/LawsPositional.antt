@@ -17,8 +17,9 @@ use Rattle.rules.specs.CallRecord.{Named}
 use Rattle.rules.specs.Parameters.{Parameter}
 use Rattle.original.specs.Spec.{ParametersSpec}
 use Rattle.original.specs.Locals.{Held, single, Locals, usizeMax}
-use Rattle.original.specs.Arguments.{zipSlots, takeOne, takeEach, takePositionals}
+use Rattle.original.specs.Arguments.{zipSlots}
 use Rattle.original.specs.Collect.{startLocals}
+use Rattle.original.proofs.TotalCollect.{takeOne, takeEach, takePositionals}
 use Rattle.original.proofs.LawsSlots.{mapFrom-same₀, set-mapFrom₀, replicate-mapFrom}
 
 pub same-locals : {s s′ : List (Option Held)} {t t′ : List Value} {k k′ : Option (List Named)} {n n′ l l′ : ℕ} → s ≡ s′ → t ≡ t′ → k ≡ k′ → n ≡ n′ → l ≡ l′

@@ -23,8 +23,8 @@ use Rattle.rules.proofs.LawsListing.{and-left}
 use Rattle.rules.proofs.LawsFound.{fromP-at}
 use Rattle.original.specs.Spec.{isSome, specOf}
 use Rattle.original.specs.Locals.{Held, single, tuple, dict, ok, alloc, Locals}
-use Rattle.original.specs.Collect.{setArgs, setKwargs}
 use Rattle.original.specs.Ending.{ends, errorOf, heldIn}
+use Rattle.original.proofs.TotalCollect.{setArgs, setKwargs}
 use Rattle.original.proofs.LawsSlots.{mapFrom-same₀, map-mapFrom, once, writeTo, write-once}
 use Rattle.original.proofs.LawsSpec.{first-any}
 use Rattle.original.proofs.LawsNamed.{over, lazy}

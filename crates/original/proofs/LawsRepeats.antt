@@ -22,8 +22,8 @@ use Rattle.rules.specs.Binding.{namedBy, askRepeats}
 use Rattle.rules.proofs.LawsListing.{and-left, and-right, map-append}
 use Rattle.rules.proofs.LawsText.{sameBytes-eq}
 use Rattle.original.specs.Locals.{RepeatedArg, ok, err, Locals}
-use Rattle.original.specs.Arguments.{noText}
 use Rattle.original.specs.Ending.{ends, errorOf}
+use Rattle.original.proofs.TotalCollect.{noText}
 use Rattle.original.proofs.LawsNamed.{firstOr}
 use Rattle.original.proofs.LawsEnds.{readsParameter}
 

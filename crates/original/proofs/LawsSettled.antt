@@ -27,9 +27,9 @@ use Rattle.rules.proofs.LawsFound.{fromP-at}
 use Rattle.rules.proofs.LawsShort.{tally-most}
 use Rattle.original.specs.Spec.{isSome, specOf}
 use Rattle.original.specs.Locals.{Held, single, FunctionError, MissingPositionalOnly, MissingNamedOnly, Missing, ok, Locals}
-use Rattle.original.specs.Arguments.{noText}
-use Rattle.original.specs.Collect.{noKind, missingAt, settleEmpty, settleOne, settleEach, settle}
+use Rattle.original.specs.Collect.{missingAt}
 use Rattle.original.specs.Ending.{ends, failing, errorOf}
+use Rattle.original.proofs.TotalCollect.{noText, noKind, settleEmpty, settleOne, settleEach, settle}
 use Rattle.original.proofs.LawsSlots.{mapFrom-same₀, set-mapFrom₀, getD-mapFrom, comeFirst, first-at}
 use Rattle.original.proofs.LawsNamed.{over, lazy}
 use Rattle.original.proofs.LawsEntries.{heldWith}
@@ -147,7 +147,7 @@ module _ (qs : List Parameter) (d : Parameter) (P : List Value) (N : List Named)
 
   module _ (read : Part → List ℕ) (named : List Named) (first : positionalFirst qs ≡ true) (only : comeFirst positionalOnly qs ≡ true) (reads : all (readsParameter read) qs ≡ true) where
     missing-here : (index : ℕ) → index < length qs → getD qs index d .kind ≡ required
-        → errorOf read named (missing (getD qs index d .style)) (name (partOf specArea (getD qs index d .name))) ≡ some (missingAt (specOf qs) index)
+        → errorOf read named (missing (getD qs index d .style)) (name (partOf specArea (getD qs index d .name))) ≡ some (missingAt (specOf qs) index (getD (specOf qs .paramNames) index noText .bytes))
     unfolding missingAt specOf positional positionalOnly positionalCount positionalOnlyCount
     missing-here index h k =
         missing-error read named (getD qs index d .style) (getD qs index d .name .bytes) (partOf specArea (getD qs index d .name)) index (tally positionalOnly qs) (tally positional qs)

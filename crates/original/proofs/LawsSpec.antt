@@ -18,7 +18,7 @@ use Rattle.rules.specs.Passed.{namesApart}
 use Rattle.rules.proofs.LawsFound.{isAt, isFound, known-found, names-at}
 use Rattle.rules.proofs.LawsShort.{tally-most}
 use Rattle.original.specs.Spec.{isSome, Symbol, get, symbolsFrom}
-use Rattle.original.specs.Arguments.{noText}
+use Rattle.original.proofs.TotalCollect.{noText}
 
 -- a parameter past the end of a list, where nothing is read
 abbrev pub noParameter : Parameter

@@ -2,6 +2,7 @@
 pub mod AnswersBuilt
 pub mod AnswersCollected
 pub mod AnswersFilled
+pub mod TotalCollect
 pub mod LawsSpec
 pub mod LawsCanFill
 pub mod CanFill
@@ -10,6 +11,7 @@ pub mod LawsSlots
 pub mod LawsPositional
 pub mod LawsNamed
 pub mod LawsInside
+pub mod LawsTotal
 pub mod LawsEnds
 pub mod LawsRepeats
 pub mod LawsEntries

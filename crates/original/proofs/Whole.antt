@@ -21,13 +21,14 @@ use Rattle.rules.specs.CanFill.{answered, fillable}
 use Rattle.rules.specs.Collection.{Outcome, refused, outcomeOf, callOf, askRecords, collection}
 use Rattle.rules.proofs.LawsListing.{map-map}
 use Rattle.original.specs.Spec.{isSome, ParametersSpec, specOf}
-use Rattle.original.specs.Builder.{finishedOf}
+use Rattle.original.specs.Builder.{next, finishedOf}
 use Rattle.original.specs.CheckUnique.{Checked, unique, occursTwice, isUnique, newCheckUnique, writtenNames}
 use Rattle.original.specs.Locals.{Held, Result, ok}
-use Rattle.original.specs.Collect.{collectInline}
+use Rattle.original.specs.Collect as Rust
 use Rattle.original.specs.CanFill.{canFillWithArgs}
 use Rattle.original.specs.Ending.{heldIn, errorOf, collectionEnding}
-use Rattle.original.specs.Whole.{writtenTwice, collects, afterBuilding, afterChecking, rustEnd, compared, asCollects, slotsOn, endOf, InDomain, SameEnds, fillingAfter, rustFills}
+use Rattle.original.specs.Whole.{writtenTwice, collects, afterBuilding, afterChecking, collectorEnd, rustEnd, compared, asCollects, slotsOn, endOf, InDomain, SameEnds, rustFills}
+use Rattle.original.proofs.TotalCollect.{collectInline}
 use Rattle.original.proofs.CheckUnique.{check-unique-13}
 use Rattle.original.proofs.Collect.{reads-call, limit-small, collection-original}
 use Rattle.original.proofs.CanFill.{fillable-original}
@@ -38,11 +39,11 @@ use Rattle.original.proofs.LawsBoard.{board-read, positionals-kind, nam
 
 -- ---- what a check that has ended one way or the other makes of a result
 
-checked-unique : (x : Checked) (r : Result (List (Option Held))) → isUnique x ≡ true → compared (afterChecking x r) ≡ collects r
+checked-unique : (x : Checked) (r : Result (List (Option Held))) → isUnique x ≡ true → compared (afterChecking x (collects r)) ≡ collects r
 checked-unique (unique names) r e = refl
 checked-unique (occursTwice name) r e = absurd (false≢true e)
 
-checked-twice : (x : Checked) (r : Result (List (Option Held))) → isUnique x ≡ false → compared (afterChecking x r) ≡ writtenTwice tt
+checked-twice : (x : Checked) (r : Result (List (Option Held))) → isUnique x ≡ false → compared (afterChecking x (collects r)) ≡ writtenTwice tt
 checked-twice (unique names) r e = absurd (false≢true (sym e))
 checked-twice (occursTwice name) r e = refl
 
@@ -100,16 +101,16 @@ module _ (specCells specBytes callCells callBytes board : List ℕ) where
     reads-collection r e = reads-on (askRecords 64 64 specCells specBytes callCells callBytes board then askBinding qs c) r e
 
     -- the Rust past its builder
-    past-building : rustEnd specCells specBytes callCells callBytes ≡ afterChecking checked (collectInline (specOf qs) c)
+    past-building : rustEnd specCells specBytes callCells callBytes ≡ afterChecking checked (collects (collectInline (specOf qs) c))
     unfolding rustEnd
     past-building =
-        ap (λ (o : Option ParametersSpec). afterBuilding o (λ spec. afterChecking checked (collectInline spec c))) (builder-original specCells specBytes .finishes (d .list-passes))
-        ∙ ap (afterChecking checked) (collect-built 64 specCells specBytes limit-small (d .list-passes) c)
+        ap (λ (o : Option ParametersSpec). afterBuilding o (λ spec. afterChecking checked (collectorEnd (Rust.collectInline spec c)))) (builder-original specCells specBytes .finishes (d .list-passes))
+        ∙ ap (λ r. afterChecking checked (collectorEnd r)) (collect-built 64 specCells specBytes limit-small (d .list-passes) c)
 
     ends-so : some (compared (rustEnd specCells specBytes callCells callBytes)) ≡ endOf specCells specBytes callCells callBytes outcome
     ends-so = ap (λ e. some (compared e)) past-building ∙ go (namesDiffer callBytes (readCall callCells)) refl
       where
-        go : (b : Bool) → namesDiffer callBytes (readCall callCells) ≡ b → some (compared (afterChecking checked (collectInline (specOf qs) c))) ≡ endOf specCells specBytes callCells callBytes outcome
+        go : (b : Bool) → namesDiffer callBytes (readCall callCells) ≡ b → some (compared (afterChecking checked (collects (collectInline (specOf qs) c)))) ≡ endOf specCells specBytes callCells callBytes outcome
         go true e =
             ap some (checked-unique checked (collectInline (specOf qs) c) (check-unique-13 callBytes callCells ∙ e))
             ∙ reads-collection (collectInline (specOf qs) c) (collection-original 64 64 specCells specBytes callCells callBytes board limit-small (records true e))
@@ -127,10 +128,10 @@ pub original-can-fill : (specCells specBytes callCells callBytes : List ℕ) →
     → rustFills specCells specBytes callCells callBytes ≡ some (fillable 64 64 specCells specBytes callCells callBytes)
 unfolding rustFills writtenNames
 original-can-fill specCells specBytes callCells callBytes passes formed =
-    ap (λ (o : Option ParametersSpec). fillingAfter o (λ spec. canFillWithArgs spec p (map (λ t. t .bytes) (writtenNames callBytes callCells)))) (builder-original specCells specBytes .finishes passes)
-    ∙ ap (λ (names : List (List ℕ)). some (answered (canFillWithArgs (finishedOf (listOf specCells specBytes)) p names))) (map-map (λ n. namedIn callBytes n .name) (λ t. t .bytes) (readCall callCells .named))
-    ∙ ap (λ (b : Bool). some (answered b)) (same-fill (listOf specCells specBytes) p (map (λ n. namedIn callBytes n .name .bytes) (readCall callCells .named)))
-    ∙ ap some (sym (fillable-original 64 64 specCells specBytes callCells callBytes passes formed))
+    ap (λ (o : Option ParametersSpec). next o (λ spec. next (canFillWithArgs spec p (map (λ t. t .bytes) (writtenNames callBytes callCells))) (λ b. some (answered b)))) (builder-original specCells specBytes .finishes passes)
+    ∙ ap (λ (names : List (List ℕ)). next (canFillWithArgs (finishedOf (listOf specCells specBytes)) p names) (λ b. some (answered b))) (map-map (λ n. namedIn callBytes n .name) (λ t. t .bytes) (readCall callCells .named))
+    ∙ ap (λ (o : Option Bool). next o (λ b. some (answered b))) (same-fill (listOf specCells specBytes) p (map (λ n. namedIn callBytes n .name .bytes) (readCall callCells .named)))
+    ∙ sym (fillable-original 64 64 specCells specBytes callCells callBytes passes formed)
   where
     p : ℕ
     p = length (readCall callCells .positionals)

@@ -1,26 +1,28 @@
 -- 01's twelve examples taken through the Rust whole, its builder, its check of the written names and its collector, and one case for each of its
--- ends that they do not reach, as one joint fact. Its proof is `rust-examples` of proofs/. The records are those of rules/specs/Examples.
+-- ends that they do not reach, as one joint fact; and lists that no builder finishes, at which the collector panics. Its proof is
+-- `rust-examples` of proofs/. The records are those of rules/specs/Examples.
 use mathlib.Core.Path.{_≡_}
 use mathlib.Core.List.{List, [], _∷_}
-use mathlib.Core.Option.{Option, some}
+use mathlib.Core.Option.{Option, none, some}
 use Prim.Native.Nat.{ℕ}
-use Rattle.rules.specs.Text.{payloadOf, startOf, sizeOf, bytesAt, textIn}
-use Rattle.rules.specs.Value.{valueWidth, valueCells, readValue, callText}
+use Rattle.rules.specs.Text.{Text, payloadOf, startOf, sizeOf, bytesAt, textIn}
+use Rattle.rules.specs.Value.{Value, valueWidth, valueCells, readValue, callText}
 use Rattle.rules.specs.ParameterRecord.{ParameterRecord, stepWidth, stepCells, readStep, stepCount, readParameters, encodeParameters}
-use Rattle.rules.specs.CallRecord.{CallRecord, pairWidth, pairCells, readPair, headWidth, readHead, readCall, encodeCall, namedIn, keyIn, entryIn, callIn}
-use Rattle.rules.specs.Parameters.{comesBefore, act}
+use Rattle.rules.specs.CallRecord.{CallRecord, Call, noStar, noDouble, pairWidth, pairCells, readPair, headWidth, readHead, readCall, encodeCall, namedIn, keyIn, entryIn, callIn}
+use Rattle.rules.specs.Parameters.{optional, comesBefore, act}
 use Rattle.rules.specs.Collection.{callOf}
 use Rattle.rules.specs.Examples.{specBytes, callBytes, step, listW, listK, noParameters, whole, start, block, written-out}
+use Rattle.original.specs.Spec.{ParametersSpec}
 use Rattle.original.specs.Builder.{toU32, withCapacity, takeStep, built}
 use Rattle.original.specs.CheckUnique.{newCheckUnique, writtenNames}
 use Rattle.original.specs.Locals.{Held, single, tuple, dict, FunctionError, ArgsArrayIsNotIterable, RepeatedArg, KwArgsIsNotDict, ArgsValueIsNotString, MissingPositionalOnly, MissingNamedOnly, Missing, ExtraPositionalArg, ExtraNamedArg, ok, err, usizeMax}
-use Rattle.original.specs.Arguments.{noText, takeOne, takePositionals, testRepeats, entryAt}
-use Rattle.original.specs.Collect.{noKind, missingAt, settleOne, settle, startLocals, collectSlow, isShort, collectInline}
+use Rattle.original.specs.Arguments.{takeOne, takePositionals, testRepeats}
+use Rattle.original.specs.Collect.{missingAt, settleOne, settle, startLocals, collectSlow, isShort, collectInline}
 use Rattle.original.specs.Whole.{End, panics, writtenTwice, collects, rustEnd}
 
 -- how the Rust ends for two records over the examples' areas; to unfold it is to unfold all that it cites
 unfoldable pub rustEnds : ParameterRecord → CallRecord → End (List ℕ)
-unfolding payloadOf startOf sizeOf bytesAt textIn valueWidth valueCells readValue callText stepWidth stepCells readStep stepCount readParameters encodeParameters pairWidth pairCells readPair headWidth readHead readCall encodeCall namedIn keyIn entryIn callIn comesBefore act callOf toU32 withCapacity takeStep built newCheckUnique writtenNames usizeMax noText takeOne takePositionals testRepeats entryAt noKind missingAt settleOne settle startLocals collectSlow isShort collectInline rustEnd
+unfolding payloadOf startOf sizeOf bytesAt textIn valueWidth valueCells readValue callText stepWidth stepCells readStep stepCount readParameters encodeParameters pairWidth pairCells readPair headWidth readHead readCall encodeCall namedIn keyIn entryIn callIn comesBefore act callOf toU32 withCapacity takeStep built newCheckUnique writtenNames usizeMax takeOne takePositionals testRepeats missingAt settleOne settle startLocals collectSlow isShort collectInline rustEnd
 rustEnds list call = rustEnd (encodeParameters list) specBytes (encodeCall call) callBytes
 
 -- the collector hands back these slots, or this error
@@ -58,6 +60,30 @@ listTwo = record { function = payloadOf 0 5; steps = step 4 0 0 0 ∷ step 1 (pa
 unfoldable pub listSlashes : ParameterRecord
 unfolding payloadOf
 listSlashes = record { function = payloadOf 0 5; steps = step 4 0 0 0 ∷ step 4 0 0 0 ∷ [] }
+
+-- `start` alone, which may be left out, as a list whose index of the name, index of *args and number of positionals are given
+abbrev pub handMade : ℕ → Option ℕ → ℕ → ParametersSpec
+handMade index starIndex positional =
+    record {
+      paramKinds = optional ∷ [];
+      paramNames = startText ∷ [];
+      names = record { bytes = startBytes; index = index } ∷ [];
+      numPositionalOnly = 0;
+      numPositional = positional;
+      args = starIndex;
+      kwargs = none;
+    }
+  where
+    startText : Text
+    startText = record { payload = 0; bytes = startBytes }
+
+-- a call with some values, and one with `start` by its name
+abbrev pub valued : List Value → Call
+valued vs = record { positionals = vs; named = []; star = noStar; double = noDouble }
+
+abbrev pub startNamed : Call
+startNamed =
+    record { positionals = []; named = record { name = record { payload = 0; bytes = startBytes }; value = whole 1 } ∷ []; star = noStar; double = noDouble }
 
 pub record RustExamples : Type 0 where
   pub three-values : rustEnds listW (written-out (whole 1 ∷ whole 2 ∷ whole 3 ∷ []) []) ≡ slots (holding 1 ∷ holding 2 ∷ holding 3 ∷ [])
@@ -102,3 +128,10 @@ pub record RustExamples : Type 0 where
   -- before the collector: a name written twice, a second / mark
   pub written-twice : rustEnds listW (written-out [] (start ∷ start ∷ [])) ≡ writtenTwice startBytes
   pub slash-twice : rustEnds listSlashes (written-out [] []) ≡ panics
+  -- lists made by hand: with all indices inside, then the name's (725), *args' (832) or the second positional's (700) past the one slot
+  pub made-inside : collectInline (handMade 0 none 1) startNamed ≡ some (ok (holding 1 ∷ []))
+  pub name-past : collectInline (handMade 1 none 1) startNamed ≡ none
+  pub args-past : collectInline (handMade 0 (some 1) 1) (valued []) ≡ none
+  pub positional-past : collectInline (handMade 0 none 2) (valued (whole 1 ∷ whole 2 ∷ whole 3 ∷ [])) ≡ none
+  -- fewer slots than parameters (684)
+  pub slots-few : collectSlow (handMade 0 none 1) startNamed [] ≡ none

@@ -1,4 +1,5 @@
--- What `collect_slow` (spec.rs 629-851) works on: its result, what a slot can hold, the map of names that fit no parameter, and its locals.
+-- What `collect_slow` (spec.rs 629-851) works on: its result, what a slot can hold, the map of names that fit no parameter, and its locals. A
+-- statement that panics has no result: none, as in the builder.
 use mathlib.Core.Bool.{Bool, true, false, cond}
 use mathlib.Core.List.{List, [], _∷_, _++_}
 use mathlib.Core.Option.{Option, none, some}
@@ -6,6 +7,8 @@ use Prim.Native.Nat.{ℕ, _^_, _-_}
 use Rattle.rules.specs.Text.{sameBytes}
 use Rattle.rules.specs.Value.{Value}
 use Rattle.rules.specs.CallRecord.{Named}
+use Rattle.original.specs.Builder.{next}
+use Rattle.original.specs.Slices.{storeAt}
 
 -- a Rust value in a slot: one of 01's, the tuple of `heap.alloc_tuple` (832) or the dictionary of `kwargs.alloc` (842)
 pub data Held : Type 0 where
@@ -26,15 +29,17 @@ pub data FunctionError : Type 0 where
   ExtraPositionalArg : ℕ → FunctionError
   ExtraNamedArg : List (List ℕ) → FunctionError
 
--- `crate::Result`, and the statement after one that may return early
+-- `crate::Result`
 pub data Result (X : Type 0) : Type 0 where
   ok : X → Result X
   err : FunctionError → Result X
 
+-- the statement after one that may panic, which is none, or may return an error
 infixl 20 _andThen_
-abbrev pub _andThen_ : {X Y : Type 0} → Result X → (X → Result Y) → Result Y
-_andThen_ (ok x) next = next x
-_andThen_ (err e) next = err e
+abbrev pub _andThen_ : {X Y : Type 0} → Option (Result X) → (X → Option (Result Y)) → Option (Result Y)
+_andThen_ none rest = none
+_andThen_ (some (ok x)) rest = rest x
+_andThen_ (some (err e)) rest = some (err e)
 
 -- `usize::MAX`
 unfoldable pub usizeMax : ℕ
@@ -78,3 +83,32 @@ pub record Locals : Type 0 where
   pub kwargs : Option (List Named)
   pub nextPosition : ℕ
   pub lowestName : ℕ
+
+-- `next_position = n`
+abbrev pub setNextPosition : ℕ → Locals → Locals
+setNextPosition n l =
+    record { slots = l .slots; starArgs = l .starArgs; kwargs = l .kwargs; nextPosition = n; lowestName = l .lowestName }
+
+-- `lowest_name = n`
+abbrev pub setLowestName : ℕ → Locals → Locals
+setLowestName n l =
+    record { slots = l .slots; starArgs = l .starArgs; kwargs = l .kwargs; nextPosition = l .nextPosition; lowestName = n }
+
+-- `star_args` has other values
+abbrev pub setStarArgs : List Value → Locals → Locals
+setStarArgs vs l =
+    record { slots = l .slots; starArgs = vs; kwargs = l .kwargs; nextPosition = l .nextPosition; lowestName = l .lowestName }
+
+-- `kwargs` is another map
+abbrev pub setMap : Option (List Named) → Locals → Locals
+setMap ms l =
+    record { slots = l .slots; starArgs = l .starArgs; kwargs = ms; nextPosition = l .nextPosition; lowestName = l .lowestName }
+
+-- the slots hold other values
+abbrev pub setSlots : List (Option Held) → Locals → Locals
+setSlots ss l =
+    record { slots = ss; starArgs = l .starArgs; kwargs = l .kwargs; nextPosition = l .nextPosition; lowestName = l .lowestName }
+
+-- `slots[i] = Some(x)`
+abbrev pub store : ℕ → Held → Locals → Option (Result Locals)
+store i x l = next (storeAt (l .slots) i (some x)) (λ after. some (ok (setSlots after l)))

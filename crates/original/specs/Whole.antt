@@ -2,7 +2,7 @@
 -- written names (arguments.rs 146-159), and then the collector (spec.rs 601-851) or can-fill (853-898) is asked. Beside it 01's collection, read
 -- as such an end.
 use mathlib.Core.Path.{_≡_}
-use mathlib.Core.Bool.{Bool, true, cond}
+use mathlib.Core.Bool.{true, cond}
 use mathlib.Core.List.{List, map}
 use mathlib.Core.Option.{Option, none, some}
 use Prim.Native.Nat.{ℕ, _*_}
@@ -18,7 +18,7 @@ use Rattle.rules.specs.CallQuestions.{askForm, entriesDiffer, askBoard}
 use Rattle.rules.specs.Collection.{Outcome, refused, accepted, callOf, collection}
 use Rattle.rules.specs.CanFill.{Filling, answered}
 use Rattle.original.specs.Spec.{ParametersSpec}
-use Rattle.original.specs.Builder.{built}
+use Rattle.original.specs.Builder.{next, built}
 use Rattle.original.specs.CheckUnique.{Checked, unique, occursTwice, newCheckUnique, writtenNames}
 use Rattle.original.specs.Locals.{Held, single, tuple, dict, Result, ok}
 use Rattle.original.specs.Collect.{collectInline}
@@ -29,7 +29,7 @@ use Rattle.original.specs.Ending.{collectionEnding}
 
 -- how its way ends, where X tells which name is written twice
 pub data End (X : Type 0) : Type 0 where
-  -- an assertion of the builder has failed
+  -- an assertion of the builder or of the collector has failed, or one of them has met an index or a number that is too large
   panics : End X
   -- `new_check_unique` errs. Its error is a `value_error`, and no `FunctionError`
   writtenTwice : X → End X
@@ -41,14 +41,19 @@ afterBuilding none rest = panics
 afterBuilding (some spec) rest = rest spec
 
 -- the names that are handed on are those of the call
-abbrev pub afterChecking : Checked → Result (List (Option Held)) → End (List ℕ)
+abbrev pub afterChecking : Checked → End (List ℕ) → End (List ℕ)
 afterChecking (occursTwice name) rest = writtenTwice name
-afterChecking (unique names) rest = collects rest
+afterChecking (unique names) rest = rest
+
+-- a result, or none where the collector panics, as an end
+abbrev pub collectorEnd : Option (Result (List (Option Held))) → End (List ℕ)
+collectorEnd none = panics
+collectorEnd (some r) = collects r
 
 unfoldable pub rustEnd : List ℕ → List ℕ → List ℕ → List ℕ → End (List ℕ)
 rustEnd specCells specBytes callCells callBytes =
     afterBuilding (built specCells specBytes)
-    (λ spec. afterChecking (newCheckUnique (writtenNames callBytes callCells)) (collectInline spec (callOf callCells callBytes)))
+    (λ spec. afterChecking (newCheckUnique (writtenNames callBytes callCells)) (collectorEnd (collectInline spec (callOf callCells callBytes))))
 
 -- ---- 01
 
@@ -107,12 +112,9 @@ SameEnds specCells specBytes callCells callBytes board =
 
 -- ---- can-fill
 
-abbrev pub fillingAfter : Option ParametersSpec → (ParametersSpec → Bool) → Option Filling
-fillingAfter none rest = none
-fillingAfter (some spec) rest = some (answered (rest spec))
-
 -- the Rust's can-fill, of the list that its builder finishes, the number of positionals and the names of two records; none where it panics
 unfoldable pub rustFills : List ℕ → List ℕ → List ℕ → List ℕ → Option Filling
 rustFills specCells specBytes callCells callBytes =
-    fillingAfter (built specCells specBytes)
-    (λ spec. canFillWithArgs spec (length (readCall callCells .positionals)) (map (λ t. t .bytes) (writtenNames callBytes callCells)))
+    next (built specCells specBytes)
+    (λ spec. next (canFillWithArgs spec (length (readCall callCells .positionals)) (map (λ t. t .bytes) (writtenNames callBytes callCells)))
+    (λ fills. some (answered fills)))
