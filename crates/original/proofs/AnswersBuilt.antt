@@ -15,6 +15,9 @@ builder-examples =
     record {
       all-styles = refl;
       named-after-star = refl;
+      optional-defaulted = refl;
+      below-codes = refl;
+      above-codes = refl;
       name-repeated = refl;
       slash-twice = refl;
       star-after-args = refl;

@@ -58,10 +58,10 @@ module _ (area : List ℕ) where
   -- the steps panic exactly where one of them doesn't fit, and else leave the state of all the parameters
   take-all : (s : Style) (before : List Parameter) (ts : List Step) → Stands s before → length before + length ts < 4294967296
       → takeSteps area (stateOf before s) ts ≡ cond (allFit s before ts) (some (stateOf (before ++ addedFrom area s ts) (styleAfter s ts))) none
-  unfolding takeStep
+  unfolding takeStep act
   take-all s before [] st short = rw (append-nil before)
   take-all s before (t ∷ ts) st short =
-      ap (λ o. next o (λ self. takeSteps area self ts)) (call-step area before (t .name) (omega arith) s (act t) st)
+      ap (λ o. next o (λ self. takeSteps area self ts)) (call-step area before (t .name) (omega arith) s (t .code) (t .default) st)
       ∙ go (fits s before t) refl (take-all (nextStyle s (act t)) (before ++ added area s (act t) (t .name)) ts)
     where
       after : List Parameter

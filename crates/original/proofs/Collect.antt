@@ -2,32 +2,31 @@
 -- `collect_inline_impl` ends as questions 15 to 24 and the placement say, with each name read in its area. It is read as TotalCollect has it;
 -- that it doesn't panic over such a list is `collect-built`.
 -- Assumes nothing.
-use mathlib.Core.Path.{_≡_, refl, sym, ap, _∙_}
+use mathlib.Core.Path.{_≡_, refl}
 use mathlib.Core.Bool.{Bool, true, false, cond}
 use mathlib.Core.List.{List, [], _∷_, map}
-use mathlib.Core.Option.{Option, some}
+use mathlib.Core.Option.{some}
 use Prim.Native.Nat.{ℕ, zero, suc, _≤_}
 use native.Mathlib.Omega.{arith}
 use lib.Dec.{eqb}
 use Rattle.rules.specs.Listing.{all}
 use Rattle.rules.specs.Text.{sameBytes, differ, bytesAt, textIn}
 use Rattle.rules.specs.Value.{callText}
-use Rattle.rules.specs.Answer.{Answer, fine, refuse, _then_, ask, partOf, Part, specArea, callArea}
+use Rattle.rules.specs.Answer.{fine, _then_, ask, partOf, Part, specArea, callArea}
 use Rattle.rules.specs.ParameterRecord.{Step, readParameters}
-use Rattle.rules.specs.CallRecord.{Call, Named, Pair, readCall, namedIn, keyIn, entryIn, word, number, wordOf, words, doubleOf, entriesOf, callIn, namedOf, positionalsOf}
-use Rattle.rules.specs.Parameters.{Parameter, Style, posOnly, Act, adds, slash, bareStar, unknownCode, act, nextStyle, added, addedFrom, parametersOf}
+use Rattle.rules.specs.CallRecord.{Pair, readCall, namedIn, keyIn, entryIn, word, number, wordOf, words, doubleOf, entriesOf, callIn, namedOf, positionalsOf}
+use Rattle.rules.specs.Parameters.{Style, posOnly, Act, adds, slash, bareStar, unknownCode, act, nextStyle, added, addedFrom, parametersOf}
 use Rattle.rules.specs.ParameterQuestions.{askParameters, listOf}
-use Rattle.rules.specs.CallQuestions.{entriesDiffer, namesDiffer, askForm, askCall, askBoard}
-use Rattle.rules.specs.Collection.{callOf, outcomeOf, askRecords, collection}
-use Rattle.rules.specs.Placement.{place, starRemainder, namedRemainder}
-use Rattle.rules.specs.Binding.{textsOf, askBinding}
+use Rattle.rules.specs.CallQuestions.{entriesDiffer, namesDiffer, askForm, askCall}
+use Rattle.rules.specs.Collection.{callOf}
+use Rattle.rules.specs.Binding.{textsOf}
 use Rattle.rules.proofs.LawsListing.{all-append, map-map}
 use Rattle.rules.proofs.LawsText.{sameBytes-refl}
-use Rattle.rules.proofs.LawsAnswer.{then-left, then-right, then-fine, ask-true}
+use Rattle.rules.proofs.LawsAnswer.{then-right, ask-true}
 use Rattle.rules.proofs.LawsParameters.{list-positionalFirst, list-namesApart}
 use Rattle.original.specs.Spec.{specOf}
-use Rattle.original.specs.Locals.{Held, Result, ok, usizeMax}
-use Rattle.original.specs.Ending.{partBytes, heldIn, ends, ending, outcomeEnds, collectionEnding}
+use Rattle.original.specs.Locals.{usizeMax}
+use Rattle.original.specs.Ending.{partBytes, ending}
 use Rattle.original.proofs.TotalCollect.{collectInline}
 use Rattle.original.proofs.LawsSpec.{noParameter}
 use Rattle.original.proofs.LawsEnds.{readsParameter, readsNamed}
@@ -112,34 +111,3 @@ collect-original A B specCells specBytes callCells callBytes small list-passes c
 pub limit-small : 64 ≤ usizeMax
 unfolding usizeMax
 limit-small = omega arith
-
--- the same against 01's collection whole: for records and a board that pass 1 to 14 the Rust ends as the collection does
-pub collection-original : (A B : ℕ) (specCells specBytes callCells callBytes board : List ℕ) → A ≤ usizeMax → askRecords A B specCells specBytes callCells callBytes board ≡ fine
-    → some (collectInline (specOf (listOf specCells specBytes)) (callOf callCells callBytes))
-    ≡ collectionEnding specBytes callBytes (listOf specCells specBytes) (callOf callCells callBytes) (collection A B specCells specBytes callCells callBytes board)
-unfolding askRecords collection ending collectionEnding
-collection-original A B specCells specBytes callCells callBytes board small passes =
-    collect-original A B specCells specBytes callCells callBytes small
-    (then-left (askParameters A specCells specBytes) (askCall B callCells callBytes then askBoard A B board) passes)
-    (then-left (askCall B callCells callBytes) (askBoard A B board) (then-right (askParameters A specCells specBytes) (askCall B callCells callBytes then askBoard A B board) passes))
-    ∙ go (askBinding qs c)
-    ∙ ap (λ (a : Answer). outcomeEnds read₀ named₀ (outcomeOf a qs (positionalsOf c) (namedOf c) board) slots₀) (sym (then-fine (askRecords A B specCells specBytes callCells callBytes board) (askBinding qs c) passes))
-  where
-    qs : List Parameter
-    qs = listOf specCells specBytes
-
-    c : Call
-    c = callOf callCells callBytes
-
-    read₀ : Part → List ℕ
-    read₀ = partBytes specBytes callBytes
-
-    named₀ : List Named
-    named₀ = namedRemainder qs (namedOf c)
-
-    slots₀ : Result (List (Option Held))
-    slots₀ = ok (map (heldIn (starRemainder qs (positionalsOf c)) named₀) (place qs (positionalsOf c) (namedOf c)))
-
-    go : (a : Answer) → ends read₀ named₀ a slots₀ ≡ outcomeEnds read₀ named₀ (outcomeOf a qs (positionalsOf c) (namedOf c) board) slots₀
-    go fine = refl
-    go (refuse n d) = refl

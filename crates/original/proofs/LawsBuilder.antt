@@ -1,23 +1,24 @@
--- Laws of the Rust's builder, one call at a time: the state after some parameters is the one that 01's counts and indices of them say, a
+-- Laws of the Rust's builder, one call at a time: the state after some parameters is the one that 01's style, counts and indices of them say, a
 -- call panics exactly where 5 or 7 refuses its step, and the asserts beside the test of the style add nothing to it.
 -- Assumes nothing.
 use mathlib.Core.Path.{_≡_, refl, sym, ap, _∙_}
 use mathlib.Core.Bool.{Bool, true, false, cond, not, _&&_, false≢true}
 use mathlib.Core.List.{List, [], _∷_, _++_, map, append-nil}
 use mathlib.Core.Option.{Option, none, some}
-use Prim.Native.Nat.{ℕ, suc, _+_, _-_, _<_}
+use Prim.Native.Nat.{ℕ, zero, suc, _+_, _-_, _<_}
 use native.Mathlib.Nat.{zero-add}
 use native.Mathlib.Omega.{arith}
 use borrow.Author.Tests.{lt-ltb}
 use lib.ListN.{length, length-append, length-map}
 use Rattle.rules.specs.Listing.{tally, firstFrom}
 use Rattle.rules.specs.Text.{textIn, bytesAt, sameBytes}
-use Rattle.rules.specs.Parameters.{Style, posOnly, posOrNamed, namedOnly, noMore, comesBefore, ParameterKind, required, optional, defaulted, args, kwargs, plain, takesPosition, takesName, isArgs, isKwargs, Parameter, positional, positionalOnly, nameable, positionalCount, positionalOnlyCount, argsIndex, kwargsIndex, Act, adds, slash, bareStar, unknownCode, mayStand, nextStyle, added}
+use Rattle.rules.specs.Value.{Value}
+use Rattle.rules.specs.Parameters.{Style, posOnly, posOrNamed, namedOnly, noMore, comesBefore, ParameterKind, required, optional, defaulted, args, kwargs, plain, takesPosition, takesName, isArgs, isKwargs, Parameter, positional, positionalOnly, nameable, positionalCount, positionalOnlyCount, argsIndex, kwargsIndex, Act, adds, slash, bareStar, unknownCode, actOf, mayStand, nextStyle, added}
 use Rattle.rules.specs.Lookup.{known}
 use Rattle.rules.specs.ParameterQuestions.{nameIsNew}
 use Rattle.rules.proofs.LawsListing.{map-append, tally-append}
 use Rattle.original.specs.Spec.{isSome, isNone, Symbol, get, symbolsFrom}
-use Rattle.original.specs.Builder.{assert, toU32, putIn, Param, Builder, push, setStyle, lastIsArgs, add, kwargs as kwargsCall, call, nameInRust}
+use Rattle.original.specs.Builder.{assert, toU32, putIn, CurrentParameterStyle, PosOnly, PosOrNamed, NamedOnly, NoMore, Param, Builder, push, setStyle, lastIsArgs, isArgsOrKWargs, add, kwargs as kwargsCall, call, nameInRust}
 use Rattle.original.proofs.LawsSpec.{get-known}
 
 -- ---- one more element
@@ -77,6 +78,13 @@ put-new (s ∷ ss) key value e = go (sameBytes key (s .bytes)) e (put-new ss key
 abbrev pub paramOf : Parameter → Param
 paramOf q = record { name = nameInRust q; kind = q .kind }
 
+-- 01's styles in the Rust, by name
+abbrev pub styleInRust : Style → CurrentParameterStyle
+styleInRust posOnly = PosOnly
+styleInRust posOrNamed = PosOrNamed
+styleInRust namedOnly = NamedOnly
+styleInRust noMore = NoMore
+
 abbrev pub stateOf : List Parameter → Style → Builder
 stateOf qs s =
     record {
@@ -84,7 +92,7 @@ stateOf qs s =
       names = symbolsFrom 0 qs;
       positionalOnly = positionalOnlyCount qs;
       positional = positionalCount qs;
-      currentStyle = s;
+      currentStyle = styleInRust s;
       args = argsIndex qs;
       kwargs = kwargsIndex qs;
     }
@@ -102,7 +110,7 @@ state-more : (qs : List Parameter) (q : Parameter) (s : Style) {p : List Param} 
     → p ≡ map paramOf qs ++ (paramOf q ∷ [])
     → n ≡ symbolsFrom 0 (qs ++ (q ∷ [])) → o ≡ positionalOnlyCount (qs ++ (q ∷ [])) → c ≡ positionalCount (qs ++ (q ∷ []))
     → a ≡ argsIndex (qs ++ (q ∷ [])) → k ≡ kwargsIndex (qs ++ (q ∷ []))
-    → _≡_ {A = Builder} (record { params = p; names = n; positionalOnly = o; positional = c; currentStyle = s; args = a; kwargs = k }) (stateOf (qs ++ (q ∷ [])) s)
+    → _≡_ {A = Builder} (record { params = p; names = n; positionalOnly = o; positional = c; currentStyle = styleInRust s; args = a; kwargs = k }) (stateOf (qs ++ (q ∷ [])) s)
 state-more qs q s e₁ e₂ e₃ e₄ e₅ e₆ = cc (map-append paramOf qs (q ∷ []))
 
 -- the parameter that a step adds
@@ -175,6 +183,14 @@ none-some : {X : Type 0} (o : Option X) → isNone o ≡ not (isSome o)
 none-some none = refl
 none-some (some x) = refl
 
+-- the assertion on the kind (166-171) lets pass what 01 calls plain
+not-starred : (k : ParameterKind) → not (isArgsOrKWargs k) ≡ plain k
+not-starred required = refl
+not-starred optional = refl
+not-starred (defaulted v) = refl
+not-starred args = refl
+not-starred kwargs = refl
+
 module _ (area : List ℕ) (qs : List Parameter) (name : ℕ) (k : ParameterKind) (p : plain k ≡ true) (short : length qs < 4294967296) where
   -- a call of `add` panics exactly where 5 or 7 refuses, and else adds the parameter
   abbrev AddsAs : Style → Type 0
@@ -227,16 +243,16 @@ module _ (area : List ℕ) (qs : List Parameter) (name : ℕ) (k : ParameterKind
   add-step : (s : Style) → Stands s qs → AddsAs s
   unfolding comesBefore textIn
   add-step posOnly st =
-      rw (p, st .no-kwargs, st .no-args refl)
+      rw (not-starred k, p, st .no-kwargs, st .no-args refl)
       (ap {B = Option Builder} some
       (state-more qs (new area name posOnly k) posOnly
       (pushed posOnly) (unnamed posOnly refl) (counted-only posOnly refl st) (counted posOnly refl st) (args-kept posOnly) (kwargs-kept posOnly)))
   add-step posOrNamed st = go (known qs (bytesAt area name)) refl
     where
       go : (c : Bool) → known qs (bytesAt area name) ≡ c → AddsAs posOrNamed
-      go true e = rw (p, st .no-kwargs, index-u32, old-none, e)
+      go true e = rw (not-starred k, p, st .no-kwargs, index-u32, old-none, e)
       go false e =
-          rw (p, st .no-kwargs, index-u32, old-none, e, st .no-args refl)
+          rw (not-starred k, p, st .no-kwargs, index-u32, old-none, e, st .no-args refl)
           (ap {B = Option Builder} some
           (state-more qs (new area name posOrNamed k) posOrNamed
           (pushed posOrNamed) (named posOrNamed refl e) (sym (positional-only-more area qs name posOrNamed k p)) (counted posOrNamed refl st) (args-kept posOrNamed) (kwargs-kept posOrNamed)))
@@ -247,13 +263,13 @@ module _ (area : List ℕ) (qs : List Parameter) (name : ℕ) (k : ParameterKind
       and-no false = refl
 
       go : (c : Bool) → known qs (bytesAt area name) ≡ c → AddsAs namedOnly
-      go true e = rw (p, st .no-kwargs, index-u32, old-none, e)
+      go true e = rw (not-starred k, p, st .no-kwargs, index-u32, old-none, e)
       go false e =
-          rw (p, st .no-kwargs, index-u32, old-none, e, and-no (isNone (argsIndex qs)))
+          rw (not-starred k, p, st .no-kwargs, index-u32, old-none, e, and-no (isNone (argsIndex qs)))
           (ap {B = Option Builder} some
           (state-more qs (new area name namedOnly k) namedOnly
           (pushed namedOnly) (named namedOnly refl e) (sym (positional-only-more area qs name namedOnly k p)) (sym (positional-more area qs name namedOnly k p)) (args-kept namedOnly) (kwargs-kept namedOnly)))
-  add-step noMore st = rw p
+  add-step noMore st = rw (not-starred k, p)
 
 -- ---- *args and **kwargs
 
@@ -279,8 +295,10 @@ assert-none false = refl
 
 module _ (area : List ℕ) (qs : List Parameter) (name : ℕ) where
   -- a call panics exactly where 5 or 7 refuses its step, and else gives the state with what the step adds
-  abbrev pub TakesAs : Style → Act → Type 0
-  TakesAs s a = call a (textIn area name) (stateOf qs s) ≡ cond (mayStand s a && nameIsNew area s qs a name) (some (stateOf (qs ++ added area s a name) (nextStyle s a))) none
+  abbrev pub TakesAs : Style → ℕ → Value → Type 0
+  TakesAs s code v =
+      call code (textIn area name) v (stateOf qs s)
+      ≡ cond (mayStand s (actOf code v) && nameIsNew area s qs (actOf code v) name) (some (stateOf (qs ++ added area s (actOf code v) name) (nextStyle s (actOf code v)))) none
 
   args-new : (s : Style) → isNone (argsIndex qs) ≡ true → argsIndex (qs ++ (new area name s args ∷ [])) ≡ some (length qs)
   unfolding argsIndex
@@ -302,21 +320,21 @@ module _ (area : List ℕ) (qs : List Parameter) (name : ℕ) where
   last x = ap {B = Option ℕ} some (last-index (map paramOf qs) x ∙ length-map qs paramOf)
 
   args-taken : (s : Style) → isNone (argsIndex qs) ≡ true
-      → setStyle namedOnly (lastIsArgs (push (paramOf (new area name s args)) (stateOf qs s))) ≡ stateOf (qs ++ (new area name s args ∷ [])) namedOnly
+      → setStyle NamedOnly (lastIsArgs (push (paramOf (new area name s args)) (stateOf qs s))) ≡ stateOf (qs ++ (new area name s args ∷ [])) namedOnly
   args-taken s e =
       state-more qs (new area name s args) namedOnly refl
       (names-kept area qs name s args refl) (positional-only-kept area qs name s args refl) (positional-kept area qs name s args refl)
       (last (paramOf (new area name s args)) ∙ sym (args-new s e)) (sym (no-kwargs-new s))
 
-  args-step : (s : Style) → Stands s qs → TakesAs s (adds args)
+  args-step : (s : Style) (v : Value) → Stands s qs → TakesAs s 6 v
   unfolding comesBefore
-  args-step posOnly st = rw (st .no-args refl, st .no-kwargs) (ap {B = Option Builder} some (args-taken posOnly (st .no-args refl)))
-  args-step posOrNamed st = rw (st .no-args refl, st .no-kwargs) (ap {B = Option Builder} some (args-taken posOrNamed (st .no-args refl)))
-  args-step namedOnly st = assert-none (isNone (argsIndex qs))
-  args-step noMore st = assert-none (isNone (argsIndex qs))
+  args-step posOnly v st = rw (st .no-args refl, st .no-kwargs) (ap {B = Option Builder} some (args-taken posOnly (st .no-args refl)))
+  args-step posOrNamed v st = rw (st .no-args refl, st .no-kwargs) (ap {B = Option Builder} some (args-taken posOrNamed (st .no-args refl)))
+  args-step namedOnly v st = assert-none (isNone (argsIndex qs))
+  args-step noMore v st = assert-none (isNone (argsIndex qs))
 
-  kwargs-step : (s : Style) → Stands s qs → TakesAs s (adds kwargs)
-  kwargs-step s st = go (comesBefore s noMore) (st .no-kwargs)
+  kwargs-step : (s : Style) (v : Value) → Stands s qs → TakesAs s 7 v
+  kwargs-step s v st = go (comesBefore s noMore) (st .no-kwargs)
     where
       go : (c : Bool) → isNone (kwargsIndex qs) ≡ c
           → kwargsCall (stateOf qs s) ≡ cond (c && true) (some (stateOf (qs ++ (new area name s kwargs ∷ [])) noMore)) none
@@ -330,31 +348,32 @@ module _ (area : List ℕ) (qs : List Parameter) (name : ℕ) where
 
   -- ---- the marks
 
-  slash-step : (s : Style) → TakesAs s slash
+  slash-step : (s : Style) (v : Value) → TakesAs s 4 v
   unfolding comesBefore
-  slash-step posOnly = rw (append-nil qs)
-  slash-step posOrNamed = refl
-  slash-step namedOnly = refl
-  slash-step noMore = refl
+  slash-step posOnly v = rw (append-nil qs)
+  slash-step posOrNamed v = refl
+  slash-step namedOnly v = refl
+  slash-step noMore v = refl
 
-  star-step : (s : Style) → Stands s qs → TakesAs s bareStar
+  star-step : (s : Style) (v : Value) → Stands s qs → TakesAs s 5 v
   unfolding comesBefore
-  star-step posOnly st = rw (st .no-args refl, st .no-kwargs, append-nil qs)
-  star-step posOrNamed st = rw (st .no-args refl, st .no-kwargs, append-nil qs)
-  star-step namedOnly st = assert-none (isNone (argsIndex qs))
-  star-step noMore st = assert-none (isNone (argsIndex qs))
+  star-step posOnly v st = rw (st .no-args refl, st .no-kwargs, append-nil qs)
+  star-step posOrNamed v st = rw (st .no-args refl, st .no-kwargs, append-nil qs)
+  star-step namedOnly v st = assert-none (isNone (argsIndex qs))
+  star-step noMore v st = assert-none (isNone (argsIndex qs))
 
   -- ---- any step
 
-  pub call-step : length qs < 4294967296 → (s : Style) (a : Act) → Stands s qs → TakesAs s a
-  call-step short s (adds required) st = add-step area qs name required refl short s st
-  call-step short s (adds optional) st = add-step area qs name optional refl short s st
-  call-step short s (adds (defaulted v)) st = add-step area qs name (defaulted v) refl short s st
-  call-step short s (adds args) st = args-step s st
-  call-step short s (adds kwargs) st = kwargs-step s st
-  call-step short s slash st = slash-step s
-  call-step short s bareStar st = star-step s st
-  call-step short s unknownCode st = refl
+  pub call-step : length qs < 4294967296 → (s : Style) (code : ℕ) (v : Value) → Stands s qs → TakesAs s code v
+  call-step short s zero v st = refl
+  call-step short s (suc zero) v st = add-step area qs name required refl short s st
+  call-step short s (suc (suc zero)) v st = add-step area qs name optional refl short s st
+  call-step short s (suc (suc (suc zero))) v st = add-step area qs name (defaulted v) refl short s st
+  call-step short s (suc (suc (suc (suc zero)))) v st = slash-step s v
+  call-step short s (suc (suc (suc (suc (suc zero))))) v st = star-step s v st
+  call-step short s (suc (suc (suc (suc (suc (suc zero)))))) v st = args-step s v st
+  call-step short s (suc (suc (suc (suc (suc (suc (suc zero))))))) v st = kwargs-step s v st
+  call-step short s (suc (suc (suc (suc (suc (suc (suc (suc n)))))))) v st = refl
 
 -- ---- what the style says stays true
 

@@ -78,12 +78,12 @@ module _ (qs : List Parameter) (d : Parameter) (read : Part → List ℕ) where
 
 -- ---- the slots
 
-unnamed : (q : Parameter) (N : List Named) → plain (q .kind) ≡ false → partner q N ≡ none
+pub unnamed : (q : Parameter) (N : List Named) → plain (q .kind) ≡ false → partner q N ≡ none
 unfolding names nameable
 unnamed q [] e = refl
 unnamed q (v ∷ vs) e = rw (e) (unnamed q vs e)
 
-unplaced : (q : Parameter) (P : List Value) (k : ℕ) → plain (q .kind) ≡ false → fromP P k q ≡ false
+pub unplaced : (q : Parameter) (P : List Value) (k : ℕ) → plain (q .kind) ≡ false → fromP P k q ≡ false
 unfolding fromP positional
 unplaced q P k e = rw (e)
 

@@ -56,7 +56,7 @@ getD-map-in f [] k y d h = absurd (not-suc-le-zero h)
 getD-map-in f (x ∷ xs) zero y d h = refl
 getD-map-in f (x ∷ xs) (suc k) y d h = getD-map-in f xs k y d (le-of-suc-le-suc h)
 
-pub all-at : {X : Type 0} (f : X → Bool) (xs : List X) → all f xs ≡ true → (k : ℕ) (d : X) → k < length xs → f (getD xs k d) ≡ true
+all-at : {X : Type 0} (f : X → Bool) (xs : List X) → all f xs ≡ true → (k : ℕ) (d : X) → k < length xs → f (getD xs k d) ≡ true
 all-at f [] e k d h = absurd (not-suc-le-zero h)
 all-at f (x ∷ xs) e zero d h = and-left (f x) (all f xs) e
 all-at f (x ∷ xs) e (suc k) d h = all-at f xs (and-right (f x) (all f xs) e) k d (le-of-suc-le-suc h)

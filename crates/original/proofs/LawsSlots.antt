@@ -1,9 +1,9 @@
--- Laws of slots that are read off a list of parameters, one for each by its index: a write at an index, two readings that agree, and the
--- parameters that pass a test first, or once.
+-- Laws of slots that are read off a list of parameters, one for each by its index: a write at an index, two readings that agree, the
+-- parameters that pass a test first, or once, and what the slots hold one after the other.
 -- Assumes nothing.
 use mathlib.Core.Path.{_≡_, refl, sym, ap, ap₂, subst, _∙_}
-use mathlib.Core.Bool.{Bool, true, false, cond, not, true≢false}
-use mathlib.Core.List.{List, [], _∷_, map}
+use mathlib.Core.Bool.{Bool, true, false, cond, not, _||_, true≢false}
+use mathlib.Core.List.{List, [], _∷_, _++_, map, flatMap, append-nil}
 use mathlib.Core.Option.{Option, none, some}
 use Prim.Native.Nat.{ℕ, zero, suc, _+_, _<_, suc-le-suc}
 use native.Mathlib.Nat.{add-zero, zero-add, le-of-suc-le-suc, not-suc-le-zero}
@@ -11,7 +11,7 @@ use native.Mathlib.Omega.{arith}
 use borrow.Author.Tests.{eq-eqb, ne-eqb, lt-ltb, le-ltb}
 use lib.Dec.{eqb, ltb, leb·suc-suc}
 use lib.ListN.{length, getD, set, replicate}
-use Rattle.rules.specs.Listing.{all, tally, firstFrom, mapFrom}
+use Rattle.rules.specs.Listing.{all, any, tally, firstFrom, mapFrom}
 use Rattle.rules.proofs.LawsListing.{and-left, and-right, not-yes}
 
 -- one more before the sum is one more behind it
@@ -135,3 +135,25 @@ write-once {X} {Y} f xs d o h y = go (firstFrom f 0 xs) (λ k l. the-first f 0 x
     go (some i) e =
         set-mapFrom₀ h xs i y
         ∙ mapFrom-same₀ (λ k x. cond (eqb k i) y (h k x)) (λ k x. cond (f x) y (h k x)) d xs (λ k l. ap (λ (c : Bool). cond c y (h k (getD xs k d))) (sym (e k l)))
+
+-- ---- lists that the elements give, one after the other
+
+module _ {X Y Z : Type 0} (test : X → Bool) (f : Z → List Y) (h : ℕ → X → Z) (ys : List Y) (gives : (k : ℕ) (x : X) → f (h k x) ≡ cond (test x) ys []) where
+  flatMap-none : (i : ℕ) (xs : List X) → all (λ x. not (test x)) xs ≡ true → flatMap f (mapFrom h i xs) ≡ []
+  unfolding flatMap
+  flatMap-none i [] e = refl
+  flatMap-none i (x ∷ xs) e =
+      ap₂ (λ (us vs : List Y). us ++ vs)
+      (gives i x ∙ ap (λ b. cond b ys []) (not-yes (test x) (and-left (not (test x)) (all (λ y. not (test y)) xs) e)))
+      (flatMap-none (suc i) xs (and-right (not (test x)) (all (λ y. not (test y)) xs) e))
+
+  -- where those that pass a test give `ys` and the others nothing, and one passes at most
+  pub flatMap-once : (i : ℕ) (xs : List X) → once test xs ≡ true → flatMap f (mapFrom h i xs) ≡ cond (any test xs) ys []
+  unfolding flatMap
+  flatMap-once i [] e = refl
+  flatMap-once i (x ∷ xs) e = ap (λ (us : List Y). us ++ flatMap f (mapFrom h (suc i) xs)) (gives i x) ∙ go (test x) e (flatMap-once (suc i) xs)
+    where
+      go : (c : Bool) → cond c (all (λ y. not (test y)) xs) (once test xs) ≡ true → (once test xs ≡ true → flatMap f (mapFrom h (suc i) xs) ≡ cond (any test xs) ys [])
+          → cond c ys [] ++ flatMap f (mapFrom h (suc i) xs) ≡ cond (c || any test xs) ys []
+      go true o ih = ap (λ (us : List Y). ys ++ us) (flatMap-none (suc i) xs o) ∙ append-nil ys
+      go false o ih = ih o

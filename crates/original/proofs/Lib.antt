@@ -1,4 +1,5 @@
 -- What is proved of the transcription.
+pub mod AnswersBoard
 pub mod AnswersBuilt
 pub mod AnswersCollected
 pub mod AnswersFilled

@@ -1,18 +1,15 @@
 -- The Rust's way from two records to its end is 01's: what its builder makes, its check of the written names lets pass and its collector hands
 -- back is what 01's collection answers, over all records and boards that pass 1 to 12 and 14; and so is its can-fill, over all that pass 1 to 11.
 -- Assumes nothing.
-use mathlib.Core.Path.{_≡_, refl, sym, ap, ap₂, _∙_}
-use mathlib.Core.Bool.{Bool, true, false, cond, false≢true}
+use mathlib.Core.Path.{_≡_, refl, sym, ap, ap₂, subst, _∙_}
+use mathlib.Core.Bool.{Bool, true, false, false≢true}
 use mathlib.Core.List.{List, map}
 use mathlib.Core.Option.{Option, none, some}
 use Prim.Native.Nat.{ℕ}
-use borrow.Author.Tests.{eqb-true}
-use lib.Dec.{eqb}
 use lib.ListN.{length}
-use Rattle.rules.specs.Answer.{Answer, fine, refuse, _then_, ask, Detail}
-use Rattle.rules.specs.CallRecord.{Call, readCall, namedIn, positionalsOf, namedOf}
-use Rattle.rules.specs.Placement.{place, starRemainder, namedRemainder, countsOf}
-use Rattle.rules.specs.Board.{boardAfter}
+use Rattle.rules.specs.Answer.{Answer, fine, refuse, _then_, ask, Detail, Part}
+use Rattle.rules.specs.CallRecord.{Call, Named, readCall, namedIn, positionalsOf, namedOf}
+use Rattle.rules.specs.Placement.{place, starRemainder, namedRemainder}
 use Rattle.rules.specs.Binding.{askBinding}
 use Rattle.rules.specs.Parameters.{Parameter}
 use Rattle.rules.specs.ParameterQuestions.{askParameters, listOf}
@@ -23,29 +20,41 @@ use Rattle.rules.proofs.LawsListing.{map-map}
 use Rattle.original.specs.Spec.{isSome, ParametersSpec, specOf}
 use Rattle.original.specs.Builder.{next, finishedOf}
 use Rattle.original.specs.CheckUnique.{Checked, unique, occursTwice, isUnique, newCheckUnique, writtenNames}
-use Rattle.original.specs.Locals.{Held, Result, ok}
+use Rattle.original.specs.Locals.{Held, FunctionError, Result, ok, err}
 use Rattle.original.specs.Collect as Rust
 use Rattle.original.specs.CanFill.{canFillWithArgs}
-use Rattle.original.specs.Ending.{heldIn, errorOf, collectionEnding}
-use Rattle.original.specs.Whole.{writtenTwice, collects, afterBuilding, afterChecking, collectorEnd, rustEnd, compared, asCollects, slotsOn, endOf, InDomain, SameEnds, rustFills}
+use Rattle.original.specs.Ending.{partBytes, heldIn, errorOf, failing, ends, ending}
+use Rattle.original.specs.Whole.{End, collects, afterBuilding, afterChecking, collectorEnd, rustEnd, InDomain, SameEnd, SameEnds, rustFills}
 use Rattle.original.proofs.TotalCollect.{collectInline}
 use Rattle.original.proofs.CheckUnique.{check-unique-13}
-use Rattle.original.proofs.Collect.{reads-call, limit-small, collection-original}
+use Rattle.original.proofs.Collect.{reads-call, limit-small, collect-original}
 use Rattle.original.proofs.CanFill.{fillable-original}
 use Rattle.original.proofs.Builder.{builder-original}
 use Rattle.original.proofs.BuiltFills.{same-fill}
 use Rattle.original.proofs.BuiltCollects.{collect-built}
-use Rattle.original.proofs.LawsBoard.{board-read, positionals-kind, named-kind, defaults-kind}
+use Rattle.original.proofs.LawsBuilt.{list-oneArgs, list-oneKwargs}
+use Rattle.original.proofs.LawsBoard.{placed-fine, board-same}
 
--- ---- what a check that has ended one way or the other makes of a result
+-- ---- what an end is by its parts
 
-checked-unique : (x : Checked) (r : Result (List (Option Held))) → isUnique x ≡ true → compared (afterChecking x (collects r)) ≡ collects r
-checked-unique (unique names) r e = refl
-checked-unique (occursTwice name) r e = absurd (false≢true e)
+module _ (read : Part → List ℕ) (extra : List Named) (board : List ℕ) where
+  -- a check that has found a name twice is 13
+  ends-twice : (x : Checked) (r : Result (List (Option Held))) → isUnique x ≡ false → SameEnd read extra board (afterChecking x (collects r)) (refused 13 Detail.none)
+  ends-twice (unique names) r e = absurd (false≢true (sym e))
+  ends-twice (occursTwice name) r e = (refl, refl)
 
-checked-twice : (x : Checked) (r : Result (List (Option Held))) → isUnique x ≡ false → compared (afterChecking x (collects r)) ≡ writtenTwice tt
-checked-twice (unique names) r e = absurd (false≢true (sym e))
-checked-twice (occursTwice name) r e = refl
+  -- and one that has passed leaves the collector's result
+  ends-unique : (x : Checked) (r : Result (List (Option Held))) (o : Outcome) → isUnique x ≡ true → SameEnd read extra board (collects r) o → SameEnd read extra board (afterChecking x (collects r)) o
+  ends-unique (unique names) r o e s = s
+  ends-unique (occursTwice name) r o e s = absurd (false≢true e)
+
+  -- an error of the collector is the refusal that it is read off
+  ends-refused : (n : ℕ) (d : Detail) (r : Result (List (Option Held))) → some r ≡ failing (errorOf read extra n d) → SameEnd read extra board (collects r) (refused n d)
+  ends-refused n d r e = go (errorOf read extra n d) refl e
+    where
+      go : (o : Option FunctionError) → errorOf read extra n d ≡ o → some r ≡ failing o → SameEnd read extra board (collects r) (refused n d)
+      go none p s = absurd (false≢true (sym (ap isSome s)))
+      go (some x) p s = let same : err x ≡ r = cc in subst (λ (y : Result (List (Option Held))). SameEnd read extra board (collects y) (refused n d)) same p
 
 module _ (specCells specBytes callCells callBytes board : List ℕ) where
   abbrev qs : List Parameter
@@ -54,51 +63,48 @@ module _ (specCells specBytes callCells callBytes board : List ℕ) where
   abbrev c : Call
   c = callOf callCells callBytes
 
+  abbrev read : Part → List ℕ
+  read = partBytes specBytes callBytes
+
+  abbrev extra : List Named
+  extra = namedRemainder qs (namedOf c)
+
   abbrev checked : Checked
   checked = newCheckUnique (writtenNames callBytes callCells)
+
+  abbrev Same : End → Outcome → Type 0
+  Same e o = SameEnd read extra board e o
 
   abbrev outcome : Outcome
   outcome = collection 64 64 specCells specBytes callCells callBytes board
 
-  reads-13 : askRecords 64 64 specCells specBytes callCells callBytes board ≡ refuse 13 Detail.none → some (writtenTwice tt) ≡ endOf specCells specBytes callCells callBytes outcome
-  unfolding endOf collection
-  reads-13 e =
-      ap (λ (a : Answer). endOf specCells specBytes callCells callBytes (outcomeOf (a then askBinding qs c) qs (positionalsOf c) (namedOf c) board)) (sym e)
+  outcome-asked : (a : Answer) → askRecords 64 64 specCells specBytes callCells callBytes board ≡ a → outcome ≡ outcomeOf (a then askBinding qs c) qs (positionalsOf c) (namedOf c) board
+  unfolding collection
+  outcome-asked a e = ap (λ (x : Answer). outcomeOf (x then askBinding qs c) qs (positionalsOf c) (namedOf c) board) e
 
   module _ (d : InDomain specCells specBytes callCells callBytes board) where
-    -- 13 is what is left to be asked of the records
-    records : (b : Bool) → namesDiffer callBytes (readCall callCells) ≡ b → askRecords 64 64 specCells specBytes callCells callBytes board ≡ ask 13 b
-    unfolding askRecords askCall
-    records b e =
-        ap₂ (λ (x y : Answer). x then y then askBoard 64 64 board) (d .list-passes) (ap₂ (λ (x : Answer) (y : Bool). x then ask 12 y then ask 13 (namesDiffer callBytes (readCall callCells))) (d .form-passes) (d .keys-differ) ∙ ap (ask 13) e)
-        ∙ go b
+    -- 13 is what is left to be asked of the call, and of the records
+    call-asked : (b : Bool) → namesDiffer callBytes (readCall callCells) ≡ b → askCall 64 callCells callBytes ≡ ask 13 b
+    unfolding askCall
+    call-asked b e = ap₂ (λ (x : Answer) (y : Bool). x then ask 12 y then ask 13 (namesDiffer callBytes (readCall callCells))) (d .form-passes) (d .keys-differ) ∙ ap (ask 13) e
+
+    records-asked : (b : Bool) → namesDiffer callBytes (readCall callCells) ≡ b → askRecords 64 64 specCells specBytes callCells callBytes board ≡ ask 13 b
+    unfolding askRecords
+    records-asked b e = ap₂ (λ (x y : Answer). x then y then askBoard 64 64 board) (d .list-passes) (call-asked b e) ∙ go b
       where
         go : (x : Bool) → (ask 13 x then askBoard 64 64 board) ≡ ask 13 x
         go true = d .board-long
         go false = refl
 
-    -- the board of an accepted collection, read back
-    on-board : slotsOn callBytes (length qs) (countsOf qs (positionalsOf c) (namedOf c)) (boardAfter qs (positionalsOf c) (namedOf c) board)
-        ≡ map (heldIn (starRemainder qs (positionalsOf c)) (namedRemainder qs (namedOf c))) (place qs (positionalsOf c) (namedOf c))
-    on-board =
-        board-read specBytes callBytes qs (positionalsOf c) (namedOf c) board
-        (positionals-kind 64 callCells callBytes (d .form-passes)) (named-kind 64 callCells callBytes (d .form-passes)) (defaults-kind 64 specCells specBytes (d .list-passes)) (reads-call specBytes callBytes callCells)
-
-    -- what is an end of the collector is that end here, and not 13
-    reads-on : (a : Answer) (r : Result (List (Option Held))) → some r ≡ collectionEnding specBytes callBytes qs c (outcomeOf a qs (positionalsOf c) (namedOf c) board)
-        → some (collects r) ≡ endOf specCells specBytes callCells callBytes (outcomeOf a qs (positionalsOf c) (namedOf c) board)
-    unfolding endOf collectionEnding errorOf
-    reads-on fine r e = ap asCollects e ∙ ap (λ (ss : List (Option Held)). some (collects (ok ss))) (sym on-board)
-    reads-on (refuse n x) r e = ap asCollects e ∙ go (eqb n 13) refl
-      where
-        go : (b : Bool) → eqb n 13 ≡ b
-            → asCollects (collectionEnding specBytes callBytes qs c (refused n x)) ≡ cond b (some (writtenTwice tt)) (asCollects (collectionEnding specBytes callBytes qs c (refused n x)))
-        go true p = absurd (false≢true (sym (ap isSome e ∙ ap (λ m. isSome (collectionEnding specBytes callBytes qs c (refused m x))) (eqb-true n 13 p))))
-        go false p = refl
-
-    reads-collection : (r : Result (List (Option Held))) → some r ≡ collectionEnding specBytes callBytes qs c outcome → some (collects r) ≡ endOf specCells specBytes callCells callBytes outcome
-    unfolding collection
-    reads-collection r e = reads-on (askRecords 64 64 specCells specBytes callCells callBytes board then askBinding qs c) r e
+    -- what ends as 15 to 24 answer is the outcome of that answer
+    ends-bound : (a : Answer) (r : Result (List (Option Held))) → askBinding qs c ≡ a
+        → some r ≡ ends read extra a (ok (map (heldIn (starRemainder qs (positionalsOf c)) extra) (place qs (positionalsOf c) (namedOf c))))
+        → Same (collects r) (outcomeOf a qs (positionalsOf c) (namedOf c) board)
+    ends-bound fine r p e =
+        let same : ok (map (heldIn (starRemainder qs (positionalsOf c)) extra) (place qs (positionalsOf c) (namedOf c))) ≡ r = cc in
+        subst (λ (x : Result (List (Option Held))). Same (collects x) (outcomeOf fine qs (positionalsOf c) (namedOf c) board)) same
+        (board-same qs (positionalsOf c) (namedOf c) board (list-oneArgs 64 specCells specBytes (d .list-passes)) (list-oneKwargs 64 specCells specBytes (d .list-passes)) (placed-fine qs c p) read (reads-call specBytes callBytes callCells))
+    ends-bound (refuse n x) r p e = ends-refused read extra board n x r e
 
     -- the Rust past its builder
     past-building : rustEnd specCells specBytes callCells callBytes ≡ afterChecking checked (collects (collectInline (specOf qs) c))
@@ -107,21 +113,26 @@ module _ (specCells specBytes callCells callBytes board : List ℕ) where
         ap (λ (o : Option ParametersSpec). afterBuilding o (λ spec. afterChecking checked (collectorEnd (Rust.collectInline spec c)))) (builder-original specCells specBytes .finishes (d .list-passes))
         ∙ ap (λ r. afterChecking checked (collectorEnd r)) (collect-built 64 specCells specBytes limit-small (d .list-passes) c)
 
-    ends-so : some (compared (rustEnd specCells specBytes callCells callBytes)) ≡ endOf specCells specBytes callCells callBytes outcome
-    ends-so = ap (λ e. some (compared e)) past-building ∙ go (namesDiffer callBytes (readCall callCells)) refl
-      where
-        go : (b : Bool) → namesDiffer callBytes (readCall callCells) ≡ b → some (compared (afterChecking checked (collects (collectInline (specOf qs) c)))) ≡ endOf specCells specBytes callCells callBytes outcome
-        go true e =
-            ap some (checked-unique checked (collectInline (specOf qs) c) (check-unique-13 callBytes callCells ∙ e))
-            ∙ reads-collection (collectInline (specOf qs) c) (collection-original 64 64 specCells specBytes callCells callBytes board limit-small (records true e))
-        go false e = ap some (checked-twice checked (collectInline (specOf qs) c) (check-unique-13 callBytes callCells ∙ e)) ∙ reads-13 (records false e)
+    -- and past its check
+    ends-checked : (b : Bool) → namesDiffer callBytes (readCall callCells) ≡ b → Same (afterChecking checked (collects (collectInline (specOf qs) c))) outcome
+    unfolding ending
+    ends-checked true e =
+        ends-unique read extra board checked (collectInline (specOf qs) c) outcome (check-unique-13 callBytes callCells ∙ e)
+        (subst (Same (collects (collectInline (specOf qs) c))) (sym (outcome-asked fine (records-asked true e)))
+        (ends-bound (askBinding qs c) (collectInline (specOf qs) c) refl (collect-original 64 64 specCells specBytes callCells callBytes limit-small (d .list-passes) (call-asked true e))))
+    ends-checked false e =
+        subst (Same (afterChecking checked (collects (collectInline (specOf qs) c)))) (sym (outcome-asked (refuse 13 Detail.none) (records-asked false e)))
+        (ends-twice read extra board checked (collectInline (specOf qs) c) (check-unique-13 callBytes callCells ∙ e))
 
 -- ---- the two theorems
 
 -- the Rust ends as 01's collection does, over all records and boards of 01's domain
 pub original-ends : (specCells specBytes callCells callBytes board : List ℕ) → InDomain specCells specBytes callCells callBytes board → SameEnds specCells specBytes callCells callBytes board
 unfolding SameEnds
-original-ends specCells specBytes callCells callBytes board d = ends-so specCells specBytes callCells callBytes board d
+original-ends specCells specBytes callCells callBytes board d =
+    subst (λ (e : End). Same specCells specBytes callCells callBytes board e (outcome specCells specBytes callCells callBytes board))
+    (sym (past-building specCells specBytes callCells callBytes board d))
+    (ends-checked specCells specBytes callCells callBytes board d (namesDiffer callBytes (readCall callCells)) refl)
 
 -- and answers as 01's can-fill does, over all records that pass 1 to 11
 pub original-can-fill : (specCells specBytes callCells callBytes : List ℕ) → askParameters 64 specCells specBytes ≡ fine → askForm 64 callCells callBytes ≡ fine

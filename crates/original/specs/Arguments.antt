@@ -1,3 +1,4 @@
+-- Reworked from starlark 0.14.2, src/eval/runtime/params/spec.rs (collect_slow), Apache-2.0.
 -- The first part of `collect_slow` (spec.rs 691-787), which moves the arguments into the slots, statement by statement in the Rust's order;
 -- beside each part stand its lines.
 -- A call of 01 stands for the arguments: `star` is `args()`, `double` is `kwargs()`, and the names of `named` are zipped with their values already.

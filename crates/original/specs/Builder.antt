@@ -1,3 +1,4 @@
+-- Reworked from starlark 0.14.2, src/eval/runtime/params/spec.rs (ParametersSpecBuilder) and src/collections/symbol/map.rs (insert), Apache-2.0.
 -- `ParametersSpecBuilder` (spec.rs 112-360), statement by statement: the methods by which a parameter list is put together, and the list that
 -- is finished. A method that takes `&mut self` hands back the next state. The function's name, which only messages show, is left out.
 -- A panic, where an `assert!` fails or a number does not fit 32 bits, is none: there is no next state then. Names that are no UTF-8, which
@@ -7,14 +8,14 @@ use mathlib.Core.Bool.{Bool, true, false, cond, not, _&&_}
 use mathlib.Core.List.{List, [], _∷_, _++_, map}
 use mathlib.Core.Option.{Option, none, some}
 use mathlib.Core.Logic.{_⊎_}
-use Prim.Native.Nat.{ℕ, suc, _-_}
+use Prim.Native.Nat.{ℕ, zero, suc, _-_}
 use lib.Dec.{ltb, leb, eqb}
 use lib.ListN.{length}
 use Rattle.rules.specs.Text.{Text, textIn, sameBytes}
 use Rattle.rules.specs.Value.{Value}
 use Rattle.rules.specs.Answer.{Answer, fine, refuse, _then_, ask, Detail}
 use Rattle.rules.specs.ParameterRecord.{Step, readParameters}
-use Rattle.rules.specs.Parameters.{Style, posOnly, posOrNamed, namedOnly, noMore, rank, comesBefore, ParameterKind, plain, Parameter, Act, adds, slash, bareStar, unknownCode, act}
+use Rattle.rules.specs.Parameters.{ParameterKind, Parameter, posOnly}
 use Rattle.rules.specs.Parameters as kind
 use Rattle.rules.specs.ParameterQuestions.{wholeSteps, codesKnown, namesInside, defaultsRight, askSteps, askParameters, listOf}
 use Rattle.original.specs.Spec.{isSome, isNone, Symbol, get, ParametersSpec, specOf}
@@ -56,6 +57,29 @@ pub record Inserted : Type 0 where
 abbrev pub insert : List Symbol → List ℕ → ℕ → Inserted
 insert names key value = record { old = get names key; map = putIn names key value }
 
+-- ---- the styles
+
+-- 112-122
+pub data CurrentParameterStyle : Type 0 where
+  PosOnly : CurrentParameterStyle
+  PosOrNamed : CurrentParameterStyle
+  NamedOnly : CurrentParameterStyle
+  NoMore : CurrentParameterStyle
+
+-- which of the variants a style is: 112 derives `PartialEq` and `PartialOrd`, which compare by their order
+abbrev pub variant : CurrentParameterStyle → ℕ
+variant PosOnly = 0
+variant PosOrNamed = 1
+variant NamedOnly = 2
+variant NoMore = 3
+
+-- `s == t` and `s < t`
+abbrev pub isStyle : CurrentParameterStyle → CurrentParameterStyle → Bool
+isStyle s t = eqb (variant s) (variant t)
+
+abbrev pub isBelow : CurrentParameterStyle → CurrentParameterStyle → Bool
+isBelow s t = ltb (variant s) (variant t)
+
 -- ---- the state
 
 -- an entry of `params`; the name's payload is 01's, and no method looks at it
@@ -69,18 +93,14 @@ pub record Builder : Type 0 where
   pub names : List Symbol
   pub positionalOnly : ℕ
   pub positional : ℕ
-  pub currentStyle : Style
+  pub currentStyle : CurrentParameterStyle
   pub args : Option ℕ
   pub kwargs : Option ℕ
 
 -- 346-360; the capacity is a hint
 unfoldable pub withCapacity : Builder
 withCapacity =
-    record { params = []; names = []; positionalOnly = 0; positional = 0; currentStyle = posOnly; args = none; kwargs = none }
-
--- `current_style == s` (112-122: the styles in this order)
-abbrev pub isStyle : Style → Style → Bool
-isStyle s t = eqb (rank s) (rank t)
+    record { params = []; names = []; positionalOnly = 0; positional = 0; currentStyle = PosOnly; args = none; kwargs = none }
 
 -- `self.params.push(p)`
 abbrev pub push : Param → Builder → Builder
@@ -135,7 +155,7 @@ setPositionalOnly n self =
     }
 
 -- `self.current_style = s`
-abbrev pub setStyle : Style → Builder → Builder
+abbrev pub setStyle : CurrentParameterStyle → Builder → Builder
 setStyle s self =
     record {
       params = self .params;
@@ -179,7 +199,7 @@ setKwargs i self =
 abbrev pub addName : Text → ℕ → Builder → Option Builder
 addName name i self =
     -- 189
-    cond (not (isStyle (self .currentStyle) posOnly))
+    cond (not (isStyle (self .currentStyle) PosOnly))
     -- 190
     (next (toU32 i) (λ index.
     -- 191
@@ -191,18 +211,26 @@ addName name i self =
 abbrev pub countPosition : ℕ → Builder → Builder
 countPosition i self =
     -- 193
-    cond (isNone (self .args) && not (isStyle (self .currentStyle) namedOnly))
+    cond (isNone (self .args) && not (isStyle (self .currentStyle) NamedOnly))
     -- 196-199
-    (cond (isStyle (self .currentStyle) posOnly) (setPositionalOnly (suc i) (setPositional (suc i) self)) (setPositional (suc i) self))
+    (cond (isStyle (self .currentStyle) PosOnly) (setPositionalOnly (suc i) (setPositional (suc i) self)) (setPositional (suc i) self))
     self
+
+-- `matches!(val, ParameterKind::Args | ParameterKind::KWargs)` (167)
+abbrev pub isArgsOrKWargs : ParameterKind → Bool
+isArgsOrKWargs kind.required = false
+isArgsOrKWargs kind.optional = false
+isArgsOrKWargs (kind.defaulted val) = false
+isArgsOrKWargs kind.args = true
+isArgsOrKWargs kind.kwargs = true
 
 -- 165-201
 abbrev pub add : Text → ParameterKind → Builder → Option Builder
 add name val self =
     -- 166-171
-    assert (plain val)
+    assert (not (isArgsOrKWargs val))
     -- 174-179
-    (assert (comesBefore (self .currentStyle) noMore)
+    (assert (isBelow (self .currentStyle) NoMore)
     -- 180-185
     (assert (isNone (self .kwargs))
     -- 187-192
@@ -242,19 +270,19 @@ args self =
     -- 240-244
     assert (isNone (self .args))
     -- 245-249
-    (assert (comesBefore (self .currentStyle) namedOnly)
+    (assert (isBelow (self .currentStyle) NamedOnly)
     -- 250-254
     (assert (isNone (self .kwargs))
     -- 255-257
-    (some (setStyle namedOnly (lastIsArgs (push (record { name = starArgs; kind = kind.args }) self))))))
+    (some (setStyle NamedOnly (lastIsArgs (push (record { name = starArgs; kind = kind.args }) self))))))
 
 -- 261-269
 abbrev pub noMorePositionalOnlyArgs : Builder → Option Builder
 noMorePositionalOnlyArgs self =
     -- 262-267
-    assert (isStyle (self .currentStyle) posOnly)
+    assert (isStyle (self .currentStyle) PosOnly)
     -- 268
-    (some (setStyle posOrNamed self))
+    (some (setStyle PosOrNamed self))
 
 -- 277-290
 abbrev pub noMorePositionalArgs : Builder → Option Builder
@@ -262,11 +290,11 @@ noMorePositionalArgs self =
     -- 278
     assert (isNone (self .args))
     -- 279-283
-    (assert (comesBefore (self .currentStyle) namedOnly)
+    (assert (isBelow (self .currentStyle) NamedOnly)
     -- 284-288
     (assert (isNone (self .kwargs))
     -- 289
-    (some (setStyle namedOnly self))))
+    (some (setStyle NamedOnly self))))
 
 -- 299-309
 abbrev pub kwargs : Builder → Option Builder
@@ -274,7 +302,7 @@ kwargs self =
     -- 300-304
     assert (isNone (self .kwargs))
     -- 305-308
-    (some (lastIsKwargs (setStyle noMore (push (record { name = starStarKwargs; kind = kind.kwargs }) self))))
+    (some (lastIsKwargs (setStyle NoMore (push (record { name = starStarKwargs; kind = kind.kwargs }) self))))
 
 -- 312-341
 abbrev pub finish : Builder → Option ParametersSpec
@@ -303,19 +331,20 @@ finish self =
 
 -- ---- a record's steps as calls of the methods
 
--- the method by the code, with the step's name and default; a code that is none of 1 to 7 names no method, and nothing is built
-abbrev pub call : Act → Text → Builder → Option Builder
-call (adds kind.required) name self = required name self
-call (adds kind.optional) name self = optional name self
-call (adds (kind.defaulted val)) name self = defaulted name val self
-call slash name self = noMorePositionalOnlyArgs self
-call bareStar name self = noMorePositionalArgs self
-call (adds kind.args) name self = args self
-call (adds kind.kwargs) name self = kwargs self
-call unknownCode name self = none
+-- the method by the code from 1 to 7, with the step's name and default; another code names no method, and nothing is built
+abbrev pub call : ℕ → Text → Value → Builder → Option Builder
+call zero name val self = none
+call (suc zero) name val self = required name self
+call (suc (suc zero)) name val self = optional name self
+call (suc (suc (suc zero))) name val self = defaulted name val self
+call (suc (suc (suc (suc zero)))) name val self = noMorePositionalOnlyArgs self
+call (suc (suc (suc (suc (suc zero))))) name val self = noMorePositionalArgs self
+call (suc (suc (suc (suc (suc (suc zero)))))) name val self = args self
+call (suc (suc (suc (suc (suc (suc (suc zero))))))) name val self = kwargs self
+call (suc (suc (suc (suc (suc (suc (suc (suc n)))))))) name val self = none
 
 unfoldable pub takeStep : List ℕ → Builder → Step → Option Builder
-takeStep area self t = call (act t) (textIn area (t .name)) self
+takeStep area self t = call (t .code) (textIn area (t .name)) (t .default) self
 
 abbrev pub takeSteps : List ℕ → Builder → List Step → Option Builder
 takeSteps area self [] = some self

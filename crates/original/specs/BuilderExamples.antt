@@ -88,9 +88,27 @@ namedAfterStar =
       kwargs = none;
     }
 
+-- `a` optional and `b` with the whole number 5 for its default
+abbrev pub optionalAndDefaulted : ParametersSpec
+optionalAndDefaulted =
+    record {
+      paramKinds = kind.optional ∷ kind.defaulted (record { kind = 3; payload = 5 }) ∷ [];
+      paramNames = text 1 97 ∷ text 257 98 ∷ [];
+      names = [];
+      numPositionalOnly = 2;
+      numPositional = 2;
+      args = none;
+      kwargs = none;
+    }
+
 pub record BuilderExamples : Type 0 where
   pub all-styles : run (a ∷ slash ∷ b ∷ args ∷ c ∷ kwargs ∷ []) ≡ some allStyles
   pub named-after-star : run (a ∷ a ∷ star ∷ b ∷ []) ≡ some namedAfterStar
+  pub optional-defaulted :
+      run (step 2 1 ∷ record { code = 3; name = 257; default = record { kind = 3; payload = 5 } } ∷ []) ≡ some optionalAndDefaulted
+  -- codes that name no method
+  pub below-codes : run (step 0 0 ∷ []) ≡ none
+  pub above-codes : run (step 8 0 ∷ []) ≡ none
   pub name-repeated : run (slash ∷ a ∷ star ∷ a ∷ []) ≡ none
   pub slash-twice : run (slash ∷ slash ∷ []) ≡ none
   pub star-after-args : run (args ∷ star ∷ []) ≡ none

@@ -1,3 +1,4 @@
+-- Reworked from starlark 0.14.2, src/eval/runtime/params/spec.rs (can_fill_with_args_impl), Apache-2.0.
 -- `ParametersSpec::can_fill_with_args_impl` (spec.rs 853-898), statement by statement: may this many positionals and these names fill the
 -- list? A name is its bytes. A panic, where `filled` is read or written past its end, is none; what does not panic is an answer, or the way
 -- that a loop has ended.

@@ -1,3 +1,4 @@
+-- Reworked from starlark 0.14.2, src/eval/runtime/arguments.rs (new_check_unique), Apache-2.0.
 -- `ArgNames::new_check_unique` (arguments.rs 146-159), statement by statement: the written names of a call are handed on, or the first that
 -- is written a second time is an error. The Rust's set finds by a name's text, which has its hash beside it; here it is a list in the order
 -- of insertion, searched by the bytes.

@@ -1,3 +1,4 @@
+-- Reworked from starlark 0.14.2, src/eval/runtime/params/spec.rs (collect_inline_impl, collect_slow), Apache-2.0.
 -- `collect_inline_impl` and `collect_slow` (spec.rs 601-851), whole: after the arguments are moved into the slots come defaults and missing
 -- parameters, then *args and **kwargs. Statement by statement in the Rust's order; beside each part stand its lines.
 use mathlib.Core.Bool.{Bool, true, false, cond, _&&_}

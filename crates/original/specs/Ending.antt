@@ -12,7 +12,6 @@ use Rattle.rules.specs.CallRecord.{Call, Named, positionalsOf, namedOf}
 use Rattle.rules.specs.Parameters.{Parameter}
 use Rattle.rules.specs.Placement.{Slot, empty, taken, fromDefault, starCount, namedCount, place, starRemainder, namedRemainder}
 use Rattle.rules.specs.Binding.{askBinding}
-use Rattle.rules.specs.Collection.{Outcome, refused, accepted}
 use Rattle.original.specs.Locals.{Held, single, tuple, dict, FunctionError, ArgsArrayIsNotIterable, RepeatedArg, KwArgsIsNotDict, ArgsValueIsNotString, MissingPositionalOnly, MissingNamedOnly, Missing, ExtraPositionalArg, ExtraNamedArg, Result, ok, err}
 
 -- the bytes of a part, in the area that it names
@@ -87,14 +86,3 @@ ending specBytes callBytes qs c =
     let stars : List Value = starRemainder qs (positionalsOf c) in
     let named : List Named = namedRemainder qs (namedOf c) in
     ends (partBytes specBytes callBytes) named (askBinding qs c) (ok (map (heldIn stars named) (place qs (positionalsOf c) (namedOf c))))
-
--- the same, read off 01's outcome of a collection: what is accepted has the slots of the placement
-abbrev pub outcomeEnds : {X : Type 0} → (Part → List ℕ) → List Named → Outcome → Result X → Option (Result X)
-outcomeEnds read named (refused n d) r = failing (errorOf read named n d)
-outcomeEnds read named (accepted counts board) r = some r
-
-unfoldable pub collectionEnding : List ℕ → List ℕ → List Parameter → Call → Outcome → Option (Result (List (Option Held)))
-collectionEnding specBytes callBytes qs c o =
-    let stars : List Value = starRemainder qs (positionalsOf c) in
-    let named : List Named = namedRemainder qs (namedOf c) in
-    outcomeEnds (partBytes specBytes callBytes) named o (ok (map (heldIn stars named) (place qs (positionalsOf c) (namedOf c))))

@@ -9,7 +9,7 @@ use Rattle.rules.specs.Text.{Text, payloadOf, startOf, sizeOf, bytesAt, textIn}
 use Rattle.rules.specs.Value.{Value, valueWidth, valueCells, readValue, callText}
 use Rattle.rules.specs.ParameterRecord.{ParameterRecord, stepWidth, stepCells, readStep, stepCount, readParameters, encodeParameters}
 use Rattle.rules.specs.CallRecord.{CallRecord, Call, noStar, noDouble, pairWidth, pairCells, readPair, headWidth, readHead, readCall, encodeCall, namedIn, keyIn, entryIn, callIn}
-use Rattle.rules.specs.Parameters.{optional, comesBefore, act}
+use Rattle.rules.specs.Parameters.{optional}
 use Rattle.rules.specs.Collection.{callOf}
 use Rattle.rules.specs.Examples.{specBytes, callBytes, step, listW, listK, noParameters, whole, start, block, written-out}
 use Rattle.original.specs.Spec.{ParametersSpec}
@@ -21,15 +21,15 @@ use Rattle.original.specs.Collect.{missingAt, settleOne, settle, startLo
 use Rattle.original.specs.Whole.{End, panics, writtenTwice, collects, rustEnd}
 
 -- how the Rust ends for two records over the examples' areas; to unfold it is to unfold all that it cites
-unfoldable pub rustEnds : ParameterRecord → CallRecord → End (List ℕ)
-unfolding payloadOf startOf sizeOf bytesAt textIn valueWidth valueCells readValue callText stepWidth stepCells readStep stepCount readParameters encodeParameters pairWidth pairCells readPair headWidth readHead readCall encodeCall namedIn keyIn entryIn callIn comesBefore act callOf toU32 withCapacity takeStep built newCheckUnique writtenNames usizeMax takeOne takePositionals testRepeats missingAt settleOne settle startLocals collectSlow isShort collectInline rustEnd
+unfoldable pub rustEnds : ParameterRecord → CallRecord → End
+unfolding payloadOf startOf sizeOf bytesAt textIn valueWidth valueCells readValue callText stepWidth stepCells readStep stepCount readParameters encodeParameters pairWidth pairCells readPair headWidth readHead readCall encodeCall namedIn keyIn entryIn callIn callOf toU32 withCapacity takeStep built newCheckUnique writtenNames usizeMax takeOne takePositionals testRepeats missingAt settleOne settle startLocals collectSlow isShort collectInline rustEnd
 rustEnds list call = rustEnd (encodeParameters list) specBytes (encodeCall call) callBytes
 
 -- the collector hands back these slots, or this error
-abbrev pub slots : List (Option Held) → End (List ℕ)
+abbrev pub slots : List (Option Held) → End
 slots ss = collects (ok ss)
 
-abbrev pub fails : FunctionError → End (List ℕ)
+abbrev pub fails : FunctionError → End
 fails e = collects (err e)
 
 -- `block` and `start`

@@ -10,6 +10,7 @@ pub mod Collect
 pub mod CanFill
 pub mod Ending
 pub mod Whole
+pub mod BoardExamples
 pub mod BuilderExamples
 pub mod FillExamples
 pub mod Examples

@@ -1,3 +1,4 @@
+-- Reworked from starlark 0.14.2, src/eval/runtime/params/spec.rs (collect_slow, LazyKwargs) and src/eval/runtime/arguments.rs (FunctionError), Apache-2.0.
 -- What `collect_slow` (spec.rs 629-851) works on: its result, what a slot can hold, the map of names that fit no parameter, and its locals. A
 -- statement that panics has no result: none, as in the builder.
 use mathlib.Core.Bool.{Bool, true, false, cond}

@@ -1,3 +1,4 @@
+-- Reworked from starlark 0.14.2, src/eval/runtime/params/spec.rs (ParametersSpec) and src/collections/symbol/map.rs (get), Apache-2.0.
 -- The Rust's finished parameter list (spec.rs 147-162, `ParametersSpec`) and its map of names (map.rs, `SymbolMap`), and the list that the
 -- Rust has for the parameters of a record of 01. A hash table that finds by equality is read as a list of pairs that is searched.
 use mathlib.Core.Bool.{Bool, true, false, cond}

@@ -1,18 +1,20 @@
+-- Reworked from starlark 0.14.2, src/eval/runtime/params/spec.rs and src/eval/runtime/arguments.rs, Apache-2.0.
 -- The Rust's way from two records to its end, in one piece: the builder makes the list (spec.rs 112-360), `new_check_unique` looks at the
--- written names (arguments.rs 146-159), and then the collector (spec.rs 601-851) or can-fill (853-898) is asked. Beside it 01's collection, read
--- as such an end.
+-- written names (arguments.rs 146-159), and then the collector (spec.rs 601-851) or can-fill (853-898) is asked. Beside it what it is for such an
+-- end to be 01's outcome of a collection.
 use mathlib.Core.Path.{_≡_}
-use mathlib.Core.Bool.{true, cond}
-use mathlib.Core.List.{List, map}
+use mathlib.Core.Bool.{Bool, true, false}
+use mathlib.Core.List.{List, [], _∷_, _++_, map, flatMap}
 use mathlib.Core.Option.{Option, none, some}
-use Prim.Native.Nat.{ℕ, _*_}
-use lib.Dec.{eqb}
+use Prim.Native.Nat.{ℕ, _+_}
 use lib.ListN.{length, drop}
-use Rattle.rules.specs.Cells.{readEach}
-use Rattle.rules.specs.Value.{Value, valueWidth, readValue}
-use Rattle.rules.specs.Answer.{fine}
-use Rattle.rules.specs.CallRecord.{Named, pairWidth, readPair, readCall, namedIn}
-use Rattle.rules.specs.Placement.{Counts}
+use Rattle.rules.specs.Listing.{all, tally}
+use Rattle.rules.specs.Cells.{writeEach}
+use Rattle.rules.specs.Text.{sameBytes}
+use Rattle.rules.specs.Value.{Value}
+use Rattle.rules.specs.Answer.{fine, none as noDetail, Part, partOf, callArea}
+use Rattle.rules.specs.CallRecord.{Named, readCall, namedOf}
+use Rattle.rules.specs.Placement.{Counts, namedRemainder}
 use Rattle.rules.specs.ParameterQuestions.{askParameters, listOf}
 use Rattle.rules.specs.CallQuestions.{askForm, entriesDiffer, askBoard}
 use Rattle.rules.specs.Collection.{Outcome, refused, accepted, callOf, collection}
@@ -20,78 +22,88 @@ use Rattle.rules.specs.CanFill.{Filling, answered}
 use Rattle.original.specs.Spec.{ParametersSpec}
 use Rattle.original.specs.Builder.{next, built}
 use Rattle.original.specs.CheckUnique.{Checked, unique, occursTwice, newCheckUnique, writtenNames}
-use Rattle.original.specs.Locals.{Held, single, tuple, dict, Result, ok}
+use Rattle.original.specs.Locals.{Held, single, tuple, dict, Result, ok, err}
 use Rattle.original.specs.Collect.{collectInline}
 use Rattle.original.specs.CanFill.{canFillWithArgs}
-use Rattle.original.specs.Ending.{collectionEnding}
+use Rattle.original.specs.Ending.{partBytes, errorOf}
 
 -- ---- the Rust
 
--- how its way ends, where X tells which name is written twice
-pub data End (X : Type 0) : Type 0 where
+-- how its way ends
+pub data End : Type 0 where
   -- an assertion of the builder or of the collector has failed, or one of them has met an index or a number that is too large
-  panics : End X
-  -- `new_check_unique` errs. Its error is a `value_error`, and no `FunctionError`
-  writtenTwice : X → End X
+  panics : End
+  -- `new_check_unique` errs, with the name that is written twice. Its error is a `value_error`, and no `FunctionError`
+  writtenTwice : List ℕ → End
   -- the collector has handed back the slots or an error
-  collects : Result (List (Option Held)) → End X
+  collects : Result (List (Option Held)) → End
 
-abbrev pub afterBuilding : Option ParametersSpec → (ParametersSpec → End (List ℕ)) → End (List ℕ)
+abbrev pub afterBuilding : Option ParametersSpec → (ParametersSpec → End) → End
 afterBuilding none rest = panics
 afterBuilding (some spec) rest = rest spec
 
 -- the names that are handed on are those of the call
-abbrev pub afterChecking : Checked → End (List ℕ) → End (List ℕ)
+abbrev pub afterChecking : Checked → End → End
 afterChecking (occursTwice name) rest = writtenTwice name
 afterChecking (unique names) rest = rest
 
 -- a result, or none where the collector panics, as an end
-abbrev pub collectorEnd : Option (Result (List (Option Held))) → End (List ℕ)
+abbrev pub collectorEnd : Option (Result (List (Option Held))) → End
 collectorEnd none = panics
 collectorEnd (some r) = collects r
 
-unfoldable pub rustEnd : List ℕ → List ℕ → List ℕ → List ℕ → End (List ℕ)
+unfoldable pub rustEnd : List ℕ → List ℕ → List ℕ → List ℕ → End
 rustEnd specCells specBytes callCells callBytes =
     afterBuilding (built specCells specBytes)
     (λ spec. afterChecking (newCheckUnique (writtenNames callBytes callCells)) (collectorEnd (collectInline spec (callOf callCells callBytes))))
 
--- ---- 01
+-- ---- the Rust's slots on 01's board
 
--- what is compared of an end is all of it but the name that is written twice: 01 gives 13 no detail. `check-unique-original` tells which it is
-abbrev pub compared : End (List ℕ) → End Unit
-compared panics = panics
-compared (writtenTwice name) = writtenTwice tt
-compared (collects r) = collects r
+-- 01 (cells, texts and records, board). The cells are written out here and are not those of `rules`, whose board is compared with them
 
-abbrev pub asCollects : Option (Result (List (Option Held))) → Option (End Unit)
-asCollects none = none
-asCollects (some r) = some (collects r)
+-- a value: its kind and its payload
+abbrev pub rustValue : Value → List ℕ
+rustValue v = v .kind ∷ v .payload ∷ []
 
--- what the two cells of a slot on the board say: kind 0 is an empty slot, 8 and 9 are the remainders
-unfoldable pub heldOn : List Value → List Named → Value → Option Held
-heldOn stars named v =
-    cond (eqb (v .kind) 0) none
-    (cond (eqb (v .kind) 8) (some (tuple stars))
-    (cond (eqb (v .kind) 9) (some (dict named))
-    (some (single v))))
+-- a slot: 0 and 0 when it is empty, 8 and a count for *args, 9 and a count for **kwargs
+abbrev pub rustSlot : Option Held → List ℕ
+rustSlot none = 0 ∷ 0 ∷ []
+rustSlot (some (single v)) = rustValue v
+rustSlot (some (tuple vs)) = 8 ∷ length vs ∷ []
+rustSlot (some (dict ms)) = 9 ∷ length ms ∷ []
 
--- the slots that a board holds for this many parameters, with the remainders behind them in their places
-unfoldable pub slotsOn : List ℕ → ℕ → Counts → List ℕ → List (Option Held)
-slotsOn callBytes parameters counts board =
-    let afterSlots : List ℕ = drop (valueWidth * parameters) board in
-    let afterStars : List ℕ = drop (valueWidth * counts .star) afterSlots in
-    let stars : List Value = readEach valueWidth readValue (counts .star) afterSlots in
-    let named : List Named = map (namedIn callBytes) (readEach pairWidth readPair (counts .named) afterStars) in
-    map (heldOn stars named) (readEach valueWidth readValue parameters board)
+-- a pair of the named remainder: the name, which is a text of the call area and so of kind 6, and the value
+abbrev pub rustPair : Named → List ℕ
+rustPair m = 6 ∷ m .name .payload ∷ rustValue (m .value)
 
--- the end that 01's collection is: 13 is a name written twice, 15 to 24 are the collector's errors with their details, and what is accepted is
--- the slots that the board then holds. Another refusal is no end
-unfoldable pub endOf : List ℕ → List ℕ → List ℕ → List ℕ → Outcome → Option (End Unit)
-endOf specCells specBytes callCells callBytes (refused n d) =
-    cond (eqb n 13) (some (writtenTwice tt))
-    (asCollects (collectionEnding specBytes callBytes (listOf specCells specBytes) (callOf callCells callBytes) (refused n d)))
-endOf specCells specBytes callCells callBytes (accepted counts board) =
-    some (collects (ok (slotsOn callBytes (length (listOf specCells specBytes)) counts board)))
+-- the values of a slot's tuple, and the pairs of its dictionary; another slot has none
+abbrev pub tupleIn : Option Held → List Value
+tupleIn none = []
+tupleIn (some (single v)) = []
+tupleIn (some (tuple vs)) = vs
+tupleIn (some (dict ms)) = []
+
+abbrev pub dictIn : Option Held → List Named
+dictIn none = []
+dictIn (some (single v)) = []
+dictIn (some (tuple vs)) = []
+dictIn (some (dict ms)) = ms
+
+-- does a slot hold one value? The cells alone do not tell an empty slot from a value of kind 0, nor a count from one of kind 8 or 9
+abbrev pub holdsValue : Option Held → Bool
+holdsValue none = false
+holdsValue (some (single v)) = true
+holdsValue (some (tuple vs)) = false
+holdsValue (some (dict ms)) = false
+
+-- the slots, then the star remainder's values, then the named remainder's pairs
+unfoldable pub rustCells : List (Option Held) → List ℕ
+rustCells slots =
+    writeEach rustSlot slots ++ (writeEach rustValue (flatMap tupleIn slots) ++ writeEach rustPair (flatMap dictIn slots))
+
+-- "Cells after these keep their contents"
+unfoldable pub rustBoard : List (Option Held) → List ℕ → List ℕ
+rustBoard slots before = rustCells slots ++ drop (length (rustCells slots)) before
 
 -- ---- what holds of both
 
@@ -102,13 +114,36 @@ pub record InDomain (specCells specBytes callCells callBytes board : List ℕ) :
   pub keys-differ : entriesDiffer callBytes (readCall callCells) ≡ true
   pub board-long : askBoard 64 64 board ≡ fine
 
--- the Rust ends as 01's collection does: it accepts the same calls, with the slots and remainders that the board then holds, and refuses the
--- others with the same error and detail. The right side is never `panics`, so the builder finishes its list; and it is not none, so every refusal
--- is one of these. The counts taken and defaulted have no like in the Rust
+-- an accepted collection and the slots that the Rust hands back, where `read` gives the bytes of a part
+pub record SameSlots (read : Part → List ℕ) (slots : List (Option Held)) (before : List ℕ) (counts : Counts) (after : List ℕ) : Type 0 where
+  -- every cell of the board
+  pub cells : after ≡ rustBoard slots before
+  -- both remainders' counts; they are 0 where the list has no such parameter
+  pub star : counts .star ≡ length (flatMap tupleIn slots)
+  pub named : counts .named ≡ length (flatMap dictIn slots)
+  -- the slots that hold a value are those taken and those defaulted
+  pub values : counts .taken + counts .defaulted ≡ tally holdsValue slots
+  -- a name of the dictionary has the bytes of the text that its cell says
+  pub names : all (λ m. sameBytes (read (partOf callArea (m .name))) (m .name .bytes)) (flatMap dictIn slots) ≡ true
+
+-- an end of the Rust and an outcome of 01 over one board: both accept, or both refuse with the same error. `extra` is 01's named remainder, whose
+-- names 24's error lists. Not compared are the name of 13, for which 01 has no detail (`check-unique-original` tells which it is); the details of
+-- 15, 17 and 18, which have none in the Rust; 16 against 19, which are one error there; where a name lies that an error has (only its bytes are
+-- compared); and the counts taken and defaulted, of which the Rust has the sum alone
+abbrev pub SameEnd : (Part → List ℕ) → List Named → List ℕ → End → Outcome → Type 0
+SameEnd read extra before panics o = ⊥
+SameEnd read extra before (writtenTwice bytes) (refused n d) = (n ≡ 13) × (d ≡ noDetail)
+SameEnd read extra before (writtenTwice bytes) (accepted counts after) = ⊥
+SameEnd read extra before (collects (err e)) (refused n d) = errorOf read extra n d ≡ some e
+SameEnd read extra before (collects (err e)) (accepted counts after) = ⊥
+SameEnd read extra before (collects (ok slots)) (refused n d) = ⊥
+SameEnd read extra before (collects (ok slots)) (accepted counts after) = SameSlots read slots before counts after
+
+-- the Rust ends as 01's collection does. So neither its builder nor its collector panics, and every refusal of the collection is 13 or one of the collector's errors
 unfoldable pub SameEnds : List ℕ → List ℕ → List ℕ → List ℕ → List ℕ → Type 0
 SameEnds specCells specBytes callCells callBytes board =
-    some (compared (rustEnd specCells specBytes callCells callBytes))
-    ≡ endOf specCells specBytes callCells callBytes (collection 64 64 specCells specBytes callCells callBytes board)
+    SameEnd (partBytes specBytes callBytes) (namedRemainder (listOf specCells specBytes) (namedOf (callOf callCells callBytes))) board
+    (rustEnd specCells specBytes callCells callBytes) (collection 64 64 specCells specBytes callCells callBytes board)
 
 -- ---- can-fill
 
