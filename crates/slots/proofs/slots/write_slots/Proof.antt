@@ -3,6 +3,7 @@ use Prim.Native.Nat.{_-_, _≤_}
 use native.Mathlib.Omega.{arith}
 use lib.ListN.{length}
 use mathlib.Core.Bool.{cond}
+use Rattle.rules.specs.Board.{slotValue}
 use Rattle.rules.specs.Placement.{isTaken, isDefaulted}
 use Rattle.calls.specs.Head.{headOf}
 use Rattle.slots.specs.Slots.{slotIn, slotAt, slotsOf, Filling}
@@ -33,21 +34,27 @@ add-defaulted c = omega (arith, c .defaulted .ensures, at-most-one (isDefaulted 
 
 loop-again : tie.Need-loop-again Inv-loop μ-loop
 loop-again c =
-    let start = c .before .before .before .before .before .before .before .before .before .before .before .before in
+    let put = c .before .before in
+    let pair = put .before in
+    let done = pair .before in
+    let defaulted = done .before in
+    let taken = defaulted .before in
+    let made = taken .before in
+    let at = made .before .before .loop in
+    let start = made .before .before .before .before .before in
     let a = start .args in
-    let at = c .before .before .before .before .before .before .before .before .before .loop in
-    let slot = c .before .before .before .before .before .before .before .slot-at .result in
-    let is : slotIn slot (a .star) (a .named) ≡ slotAt (a .codes .now) (a .kinds .now) (a .payloads .now) (a .sources .now) (a .cells .now) (headOf (a .h)) (a .next) (at .k) (a .star) (a .named) =
-    ap (λ g. g (a .star) (a .named)) (c .before .before .before .before .before .before .before .slot-at .ensures) in
-    let t = c .before .before .before .before .before .before .taken .ensures ∙ ap (λ b. cond b 1 0) (slot-taken slot (a .star) (a .named) ∙ ap isTaken is) in
-    let d = c .before .before .before .before .before .defaulted .ensures ∙ ap (λ b. cond b 1 0) (slot-defaulted slot (a .star) (a .named) ∙ ap isDefaulted is) in (
+    let slot = made .slot-at .result in
+    let is : slotIn slot (a .star) (a .named) ≡ slotAt (a .codes .now) (a .kinds .now) (a .payloads .now) (a .sources .now) (a .cells .now) (headOf (a .h)) (a .next) (at .k) (a .star) (a .named) = ap (λ g. g (a .star) (a .named)) (made .slot-at .ensures) in
+    let held = pair .pair .ensures ∙ ap slotValue is in
+    let t = taken .taken .ensures ∙ ap (λ b. cond b 1 0) (slot-taken slot (a .star) (a .named) ∙ ap isTaken is) in
+    let d = defaulted .defaulted .ensures ∙ ap (λ b. cond b 1 0) (slot-defaulted slot (a .star) (a .named) ∙ ap isDefaulted is) in (
       search needs,
-      omega (arith, c .before .before .before .before .before .before .taken .ensures, at-most-one (isTaken (slotIn slot 0 0))),
-      omega (arith, c .before .before .before .before .before .defaulted .ensures, at-most-one (isDefaulted (slotIn slot 0 0))),
-      c .before .before .put-inside .kept .0 ∙ at .inv .3,
-      rw (c .before .before .put-inside .ensures, c .before .before .before .pair .ensures, is)
+      omega (arith, taken .taken .ensures, at-most-one (isTaken (slotIn slot 0 0))),
+      omega (arith, defaulted .defaulted .ensures, at-most-one (isDefaulted (slotIn slot 0 0))),
+      put .put-inside .kept .0 ∙ at .inv .3,
+      rw (put .put-inside .ensures, held)
           (filling-more (λ k. slotAt (a .codes .now) (a .kinds .now) (a .payloads .now) (a .sources .now) (a .cells .now) (headOf (a .h)) (a .next) k (a .star) (a .named)) (at .k) (a .board .now) (at .board) (at .taken) (at .defaulted)
-          (c .before .before .before .before .before .before .taken .result) (c .before .before .before .before .before .defaulted .result) (at .inv .4) (omega (arith, start .pre .0, start .pre .1)) t d),
+          (taken .taken .result) (defaulted .defaulted .result) (at .inv .4) (omega (arith, start .pre .0, start .pre .1)) t d),
     )
 
 same-length : tie.Need-same-length Inv-loop μ-loop
