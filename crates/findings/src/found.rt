@@ -32,14 +32,14 @@ pub fn first_missing<'a>(
     requires { ⌜ len ≤ 64 ⌝ }
     ensures { λ r. ⌜ indexOf r ≡ firstMissing (now (codes .entry)) (now (sources .entry)) next (len - next) ⌝ }
 {
-    let mut k = next;
-    while k < len {
-        if codes[k] == 1 {
-            if sources[k] == 0 {
-                return Index::At(k);
+    let mut i = next;
+    while i < len {
+        if codes[i] == 1 {
+            if sources[i] == 0 {
+                return Index::At(i);
             }
         }
-        k += 1;
+        i += 1;
     }
     Index::Absent
 }

@@ -23,9 +23,6 @@ ghost use Rattle.rules.specs.SheetOutput.{refusalText, outcomeText};
 ghost use Rattle.cells.specs.Out.{Put};
 ghost use Rattle.sheet_output.specs.Outcome.{heading, countLine, closing, acceptedShown, numberOf, refusedCells, refusedShown, outcomeShown, Limits, OutcomeRoom, OutcomeReady};
 
-// The bytes that any call's text fits in.
-pub const OUTPUT: usize = 40960;
-
 // How a call ends, from byte 0 on, and how long that is. `list` is the one that the call was bound against, `board` and `answer` are what
 // collection left and answered.
 pub fn write_outcome<'a>(

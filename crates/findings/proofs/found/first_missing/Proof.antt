@@ -25,8 +25,8 @@ returns c =
     let at = c .before .before .before .before .before .loop in
     sym
     (at .inv
-    ∙ firstIndex-hit (λ i. eqb (getD (a .codes .now) i 0) 1 && eqb (getD (a .sources .now) i 0) 0) (at .k) (a .len) (search needs)
-    (and-both (eqb (getD (a .codes .now) (at .k) 0) 1) (eqb (getD (a .sources .now) (at .k) 0) 0) (eq-eqb (getD (a .codes .now) (at .k) 0) 1 (c .before .before .if1 .taken)) (eq-eqb (getD (a .sources .now) (at .k) 0) 0 (c .if2 .taken))))
+    ∙ firstIndex-hit (λ i. eqb (getD (a .codes .now) i 0) 1 && eqb (getD (a .sources .now) i 0) 0) (at .i) (a .len) (search needs)
+    (and-both (eqb (getD (a .codes .now) (at .i) 0) 1) (eqb (getD (a .sources .now) (at .i) 0) 0) (eq-eqb (getD (a .codes .now) (at .i) 0) 1 (c .before .before .if1 .taken)) (eq-eqb (getD (a .sources .now) (at .i) 0) 0 (c .if2 .taken))))
 
 loop-again : tie.Need-loop-again Inv-loop μ-loop
 unfolding firstMissing
@@ -34,14 +34,14 @@ loop-again c =
     let a = c .before .before .before .before .args in
     let at = c .before .before .before .loop in
     at .inv
-    ∙ firstIndex-miss (λ i. eqb (getD (a .codes .now) i 0) 1 && eqb (getD (a .sources .now) i 0) 0) (at .k) (a .len) (search needs)
-    (⊎-elim (λ w. and-no-right (eqb (getD (a .codes .now) (at .k) 0) 1) (eqb (getD (a .sources .now) (at .k) 0) 0) (ne-eqb (getD (a .sources .now) (at .k) 0) 0 (w .2 .left))) (λ w. and-no-left (eqb (getD (a .codes .now) (at .k) 0) 1) (eqb (getD (a .sources .now) (at .k) 0) 0) (ne-eqb (getD (a .codes .now) (at .k) 0) 1 (w .left))) (c .if1 .came))
+    ∙ firstIndex-miss (λ i. eqb (getD (a .codes .now) i 0) 1 && eqb (getD (a .sources .now) i 0) 0) (at .i) (a .len) (search needs)
+    (⊎-elim (λ w. and-no-right (eqb (getD (a .codes .now) (at .i) 0) 1) (eqb (getD (a .sources .now) (at .i) 0) 0) (ne-eqb (getD (a .sources .now) (at .i) 0) 0 (w .2 .left))) (λ w. and-no-left (eqb (getD (a .codes .now) (at .i) 0) 1) (eqb (getD (a .sources .now) (at .i) 0) 0) (ne-eqb (getD (a .codes .now) (at .i) 0) 1 (w .left))) (c .if1 .came))
 
 returns-2 : tie.Need-returns-2 Inv-loop μ-loop
 unfolding firstMissing
 returns-2 c =
     let a = c .before .before .args in
-    sym (c .before .loop .inv ∙ firstIndex-none (λ i. eqb (getD (a .codes .now) i 0) 1 && eqb (getD (a .sources .now) i 0) 0) (c .before .loop .k) (a .len) (search needs))
+    sym (c .before .loop .inv ∙ firstIndex-none (λ i. eqb (getD (a .codes .now) i 0) 1 && eqb (getD (a .sources .now) i 0) 0) (c .before .loop .i) (a .len) (search needs))
 
 pub first-missing-spec : {M : Type 1} → statement M
 first-missing-spec = tie.close (tie.spec Inv-loop μ-loop (λ c. search needs) (λ c. search needs) (λ c. search needs) (λ c. search needs) returns (λ c. search needs) (λ c. search needs) loop-again returns-2)
