@@ -3,26 +3,27 @@
 -- name goes with. `h` is the head that was read.
 -- Assumes nothing.
 use mathlib.Core.Path.{_≡_, refl, sym, ap, subst, _∙_}
-use mathlib.Core.Bool.{not}
+use mathlib.Core.Bool.{true, not, _||_}
 use mathlib.Core.List.{List, [], _∷_}
 use Prim.Native.Nat.{ℕ, _+_, _≤_, _<_}
 use native.Mathlib.Omega.{arith}
 use borrow.Author.Tests.{eq-eqb, ne-eqb, le-leb, lt-leb, leb-true}
-use lib.Dec.{leb}
+use lib.Dec.{leb, eqb}
 use types.Run.{OneOf, miss}
 use denote.Enum.Declared.{tagOf}
 use lib.ListN.{length}
 use Rattle.rules.specs.Cells.{over}
 use Rattle.rules.specs.Answer.{Answer, fine, refuse, none, Detail, _then_, ask}
 use Rattle.rules.specs.CallRecord.{Head, readHead}
-use Rattle.rules.specs.Board.{boardLeast-64}
+use Rattle.rules.specs.Board.{boardLeast, boardLeast-64}
 use Rattle.rules.specs.CallQuestions.{askCall, askBoard}
 use Rattle.rules.specs.Binding.{starPasses, doublePasses}
 use Rattle.rules.specs.Collection.{callOf}
 use Rattle.rules.specs.Accessors.{denied, gives, accessOf, askWriting, len}
 use Rattle.rules.proofs.LawsAnswer.{then-left, then-right, ask-true}
+use Rattle.rules.proofs.LawsNumbers.{refusesIn, then-in, ask-in, number-in, wider-in, call-in}
 use Rattle.calls.proofs.LawsNamed.{passed-star, passed-double}
-use Rattle.accessors.specs.Answer.{accessIn, nameIn, Accessing}
+use Rattle.accessors.specs.Answer.{isNumbered, accessIn, nameIn, Accessing}
 use Rattle.accessors.specs.declared.answer.Accessed.{Accessed}
 use Rattle.accessors.specs.declared.answer.Accessed.the-variants.{Answered, Record, ArgsArrayIsNotIterable, KwArgsIsNotDict, ArgsValueIsNotString, RepeatedArg, ExtraNamedArg, WrongNumberOfArgs}
 use Rattle.accessors.proofs.answer.Accessed.{the-type}
@@ -31,15 +32,30 @@ use Rattle.accessors.proofs.answer.Accessed.{the-type}
 
 module _ (asked : Answer) (k : ℕ) (written before : List ℕ) where
   -- a refusal leaves the output as it was
-  pub accessing-denied : (r : Accessed) (n : ℕ) (d : Detail) → asked ≡ refuse n d → accessIn r ≡ denied n d → Accessing (accessOf asked k) written before before r
-  accessing-denied r n d e a = subst (λ x. Accessing (accessOf x k) written before before r) (sym e) (record { answer = a; output = refl })
+  pub accessing-denied : (r : Accessed) (n : ℕ) (d : Detail) → asked ≡ refuse n d → accessIn r ≡ denied n d → isNumbered r ≡ true → Accessing (accessOf asked k) written before before r
+  accessing-denied r n d e a m = subst (λ x. Accessing (accessOf x k) written before before r) (sym e) (record { answering = record { answer = a; numbered = m }; output = refl })
 
   pub accessing-gives : (j : ℕ) (after : List ℕ) → asked ≡ fine → j ≡ k → after ≡ over written before → Accessing (accessOf asked k) written before after (Answered j)
-  accessing-gives j after e s o = subst (λ x. Accessing (accessOf x k) written before after (Answered j)) (sym e) (record { answer = ap gives s; output = o })
+  accessing-gives j after e s o = subst (λ x. Accessing (accessOf x k) written before after (Answered j)) (sym e) (record { answering = record { answer = ap gives s; numbered = refl }; output = o })
 
 -- ---- 9 to 14
 
+-- what 9 to 13 refuse with
+pub call-numbered : (cells area : List ℕ) (n : ℕ) → askCall 64 cells area ≡ refuse n none → isNumbered (Record n) ≡ true
+call-numbered cells area n e =
+    ap (λ b. b || eqb n 25) (number-in 9 14 (askCall 64 cells area) n none (wider-in 9 13 9 14 (askCall 64 cells area) (omega arith) (omega arith) (call-in 64 cells area)) e)
+
 module _ (cells area out : List ℕ) where
+  -- and what 9 to 14 do
+  writing-in : refusesIn 9 14 (askWriting 64 64 cells area out) ≡ true
+  unfolding askWriting askBoard
+  writing-in =
+      then-in 9 14 (askCall 64 cells area) (askBoard 64 64 out) (wider-in 9 13 9 14 (askCall 64 cells area) (omega arith) (omega arith) (call-in 64 cells area))
+      (ask-in 9 14 14 (leb (boardLeast 64 64) (length out)) refl)
+
+  pub writing-numbered : (n : ℕ) → askWriting 64 64 cells area out ≡ refuse n none → isNumbered (Record n) ≡ true
+  writing-numbered n e = ap (λ b. b || eqb n 25) (number-in 9 14 (askWriting 64 64 cells area out) n none writing-in e)
+
   output-asked : askBoard 64 64 out ≡ ask 14 (leb 896 (length out))
   unfolding askBoard
   output-asked = ap (λ n. ask 14 (leb n (length out))) boardLeast-64

@@ -30,11 +30,11 @@ use Rattle.calls.specs.Places.{namedAt}
 use Rattle.calls.specs.Named.{pairNamed, namesIn, entriesIn}
 use Rattle.calls.proofs.LawsNamed.{passed-few, name-inside, written-listed, entries-listed, names-formed, keys-formed, names-near, N-listed, names-text}
 use Rattle.answers.specs.Answer.{placeOf}
-use Rattle.accessors.specs.Answer.{accessIn, Accessing}
+use Rattle.accessors.specs.Answer.{isNumbered, accessIn, Accessing}
 use Rattle.accessors.specs.Entries.{KeysFormed, NamesInside, NamesText}
 use Rattle.accessors.specs.declared.answer.Accessed.{Accessed}
 use Rattle.accessors.specs.declared.answer.Accessed.the-variants.{Answered, Record, KwArgsIsNotDict}
-use Rattle.accessors.proofs.LawsAccess.{accessing-denied, accessing-gives, writing-call, writing-long, double-refused, double-fine}
+use Rattle.accessors.proofs.LawsAccess.{accessing-denied, accessing-gives, writing-numbered, writing-call, writing-long, double-refused, double-fine}
 use Rattle.accessors.proofs.LawsEntries.{entries-words}
 
 -- ---- the cells of named values
@@ -129,7 +129,7 @@ module _ (cells area out : List ℕ) where
   unfolding namesMap
   names-refused n e =
       accessing-denied asks (length (namedOf (callOf cells area))) (namesMapCells cells area) out (Record n) n none
-      (ap (λ a. asking a (ask 17 (doublePasses (callOf cells area .double))) (askEntries [] [] (callOf cells area .named) (entriesOf (callOf cells area .double)))) e) refl
+      (ap (λ a. asking a (ask 17 (doublePasses (callOf cells area .double))) (askEntries [] [] (callOf cells area .named) (entriesOf (callOf cells area .double)))) e) refl (writing-numbered cells area out n e)
 
   module _ (h : Head) (read : h ≡ readHead cells) (passed : askWriting 64 64 cells area out ≡ fine) where
     call : askCall 64 cells area ≡ fine
@@ -139,7 +139,7 @@ module _ (cells area out : List ℕ) where
     unfolding namesMap
     names-double e =
         accessing-denied asks (length (namedOf (callOf cells area))) (namesMapCells cells area) out KwArgsIsNotDict 17 none
-        (ap₂ (λ a b. asking a b (askEntries [] [] (callOf cells area .named) (entriesOf (callOf cells area .double)))) passed (double-refused area cells h read call e)) refl
+        (ap₂ (λ a b. asking a b (askEntries [] [] (callOf cells area .named) (entriesOf (callOf cells area .double)))) passed (double-refused area cells h read call e)) refl refl
 
     module _ (double : h .doubleKind ≡ 2 → ⊥) where
       -- 18 and 19 are what is left
@@ -149,11 +149,11 @@ module _ (cells area out : List ℕ) where
           ∙ ap₂ (askEntries [] []) (written-listed area cells h read call) (entries-listed area cells h read call)
           ∙ sym e
 
-      pub names-entries : (r : Accessed) (n : ℕ) (d : Detail) → refuse n d ≡ askEntries [] [] (namesIn area cells h (h .n)) (entriesIn area cells h 0 (h .d)) → accessIn r ≡ denied n d
+      pub names-entries : (r : Accessed) (n : ℕ) (d : Detail) → refuse n d ≡ askEntries [] [] (namesIn area cells h (h .n)) (entriesIn area cells h 0 (h .d)) → accessIn r ≡ denied n d → isNumbered r ≡ true
           → Accessing (namesMap 64 64 cells area out) (namesMapCells cells area) out out r
       unfolding namesMap
-      names-entries r n d e a =
-          accessing-denied asks (length (namedOf (callOf cells area))) (namesMapCells cells area) out r n d (entries-left (refuse n d) e) a
+      names-entries r n d e a m =
+          accessing-denied asks (length (namedOf (callOf cells area))) (namesMapCells cells area) out r n d (entries-left (refuse n d) e) a m
 
       module _ (asked : fine ≡ askEntries [] [] (namesIn area cells h (h .n)) (entriesIn area cells h 0 (h .d))) where
         texts : all (λ e. isWord (e .key)) (entriesOf (callOf cells area .double)) ≡ true

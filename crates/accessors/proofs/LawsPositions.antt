@@ -27,7 +27,7 @@ use Rattle.calls.specs.Values.{valuesIn}
 use Rattle.calls.proofs.LawsNamed.{passed-few, P-length, P-listed}
 use Rattle.accessors.specs.Answer.{Accessing}
 use Rattle.accessors.specs.declared.answer.Accessed.the-variants.{Answered, Record, ArgsArrayIsNotIterable, WrongNumberOfArgs}
-use Rattle.accessors.proofs.LawsAccess.{accessing-denied, accessing-gives, writing-call, writing-long, star-refused, star-fine}
+use Rattle.accessors.proofs.LawsAccess.{accessing-denied, accessing-gives, writing-numbered, writing-call, writing-long, star-refused, star-fine}
 
 -- ---- values that are missing
 
@@ -52,7 +52,7 @@ module _ (cells area out : List ℕ) where
   unfolding positions
   positions-refused n e =
       accessing-denied (askWriting 64 64 cells area out then ask 15 (starPasses (callOf cells area .star))) (length P) (positionsCells cells area) out (Record n) n none
-      (ap (λ a. a then ask 15 (starPasses (callOf cells area .star))) e) refl
+      (ap (λ a. a then ask 15 (starPasses (callOf cells area .star))) e) refl (writing-numbered cells area out n e)
 
   module _ (h : Head) (read : h ≡ readHead cells) (passed : askWriting 64 64 cells area out ≡ fine) where
     call : askCall 64 cells area ≡ fine
@@ -69,7 +69,7 @@ module _ (cells area out : List ℕ) where
     unfolding positions
     positions-star e =
         accessing-denied (askWriting 64 64 cells area out then ask 15 (starPasses (callOf cells area .star))) (length P) (positionsCells cells area) out ArgsArrayIsNotIterable 15 none
-        (ap₂ _then_ passed (star-refused area cells h read call e)) refl
+        (ap₂ _then_ passed (star-refused area cells h read call e)) refl refl
 
     pub positions-written : (h .starKind ≡ 2 → ⊥) → (after : List ℕ) → after ≡ stored out 0 (writeEach valueCells (valuesIn cells h 0 (h .p + h .s)))
         → Accessing (positions 64 64 cells area out) (positionsCells cells area) out after (Answered (h .p + h .s))
@@ -117,14 +117,14 @@ module _ (required more : ℕ) (cells area out : List ℕ) where
   optional-required e =
       accessing-denied asks (length (positionalsOf (callOf cells area))) (optionalCells required more cells area) out (Record 25) 25 none
       (ap (λ b. asking (ask 25 b) (askWriting 64 64 cells area out) (ask 15 (starPasses (callOf cells area .star))) (askNumber required more (length (positionalsOf (callOf cells area)))))
-      (and-no-left (leb required 64) (leb more 64) (lt-leb required 64 e))) refl
+      (and-no-left (leb required 64) (leb more 64) (lt-leb required 64 e))) refl refl
 
   pub optional-more : 64 < more → Accessing (optional 64 64 required more cells area out) (optionalCells required more cells area) out out (Record 25)
   unfolding optional
   optional-more e =
       accessing-denied asks (length (positionalsOf (callOf cells area))) (optionalCells required more cells area) out (Record 25) 25 none
       (ap (λ b. asking (ask 25 b) (askWriting 64 64 cells area out) (ask 15 (starPasses (callOf cells area .star))) (askNumber required more (length (positionalsOf (callOf cells area)))))
-      (and-no-right (leb required 64) (leb more 64) (lt-leb more 64 e))) refl
+      (and-no-right (leb required 64) (leb more 64) (lt-leb more 64 e))) refl refl
 
   module _ (few-required : required ≤ 64) (few-more : more ≤ 64) where
     numbers-fine : ask 25 (leb required 64 && leb more 64) ≡ fine
@@ -142,14 +142,14 @@ module _ (required more : ℕ) (cells area out : List ℕ) where
     unfolding optional
     optional-refused n e =
         accessing-denied asks (length (positionalsOf (callOf cells area))) (optionalCells required more cells area) out (Record n) n none
-        (after-numbers (refuse n none) (ask 15 (starPasses (callOf cells area .star))) (askNumber required more (length (positionalsOf (callOf cells area)))) e refl refl) refl
+        (after-numbers (refuse n none) (ask 15 (starPasses (callOf cells area .star))) (askNumber required more (length (positionalsOf (callOf cells area)))) e refl refl) refl (writing-numbered cells area out n e)
 
     module _ (h : Head) (read : h ≡ readHead cells) (passed : askWriting 64 64 cells area out ≡ fine) where
       pub optional-star : h .starKind ≡ 2 → Accessing (optional 64 64 required more cells area out) (optionalCells required more cells area) out out ArgsArrayIsNotIterable
       unfolding optional
       optional-star e =
           accessing-denied asks (length (positionalsOf (callOf cells area))) (optionalCells required more cells area) out ArgsArrayIsNotIterable 15 none
-          (after-numbers fine (refuse 15 none) (askNumber required more (length (positionalsOf (callOf cells area)))) passed (star-refused area cells h read (writing-call cells area out passed) e) refl) refl
+          (after-numbers fine (refuse 15 none) (askNumber required more (length (positionalsOf (callOf cells area)))) passed (star-refused area cells h read (writing-call cells area out passed) e) refl) refl refl
 
       number-of : (a : Answer) → askNumber required more (h .p + h .s) ≡ a → askNumber required more (length (positionalsOf (callOf cells area))) ≡ a
       number-of a e = ap (askNumber required more) (P-length area cells h read (writing-call cells area out passed)) ∙ e
@@ -160,7 +160,7 @@ module _ (required more : ℕ) (cells area out : List ℕ) where
         unfolding optional
         optional-number e =
             accessing-denied asks (length (positionalsOf (callOf cells area))) (optionalCells required more cells area) out (WrongNumberOfArgs required (required + more) (h .p + h .s)) 26 (bounds required (required + more) (h .p + h .s))
-            (after-numbers fine fine (refuse 26 (bounds required (required + more) (h .p + h .s))) passed (star-fine area cells h read (writing-call cells area out passed) star) (number-of (refuse 26 (bounds required (required + more) (h .p + h .s))) e)) refl
+            (after-numbers fine fine (refuse 26 (bounds required (required + more) (h .p + h .s))) passed (star-fine area cells h read (writing-call cells area out passed) star) (number-of (refuse 26 (bounds required (required + more) (h .p + h .s))) e)) refl refl
 
         module _ (low : required ≤ h .p + h .s) (high : h .p + h .s ≤ required + more) where
           -- both runs fit

@@ -3,3 +3,4 @@ pub mod LawsAccess
 pub mod LawsPositions
 pub mod LawsEntries
 pub mod LawsNames
+pub mod LawsTold

@@ -5,12 +5,11 @@ use crate::answer::Accessed;
 use calls::ask_call;
 use calls::head::read_head;
 use cells::answer::Answer;
-ghost use mathlib.Core.Path.{_≡_};
 ghost use Rattle.rules.specs.Accessors as rules;
-ghost use Rattle.accessors.specs.Answer.{accessIn};
+ghost use Rattle.accessors.specs.Answer.{Answering};
 
 pub fn len(cells: &[u64], area: &[u8]) -> Accessed
-    ensures { λ r. ⌜ accessIn r ≡ rules.len 64 (now (cells .entry)) (now (area .entry)) ⌝ }
+    ensures { λ r. ⌜ Answering (rules.len 64 (now (cells .entry)) (now (area .entry))) r ⌝ }
 {
     let asked = ask_call(cells, area);
     if let Answer::Refused(question) = asked {

@@ -7,12 +7,11 @@ use calls::head::read_head;
 use calls::place::named_at;
 use cells::answer::Answer;
 use cells::record::pair_at;
-ghost use mathlib.Core.Path.{_≡_};
 ghost use Rattle.rules.specs.Accessors.{noNamedArgs};
-ghost use Rattle.accessors.specs.Answer.{accessIn};
+ghost use Rattle.accessors.specs.Answer.{Answering};
 
 pub fn no_named_args(cells: &[u64], area: &[u8]) -> Accessed
-    ensures { λ r. ⌜ accessIn r ≡ noNamedArgs 64 (now (cells .entry)) (now (area .entry)) ⌝ }
+    ensures { λ r. ⌜ Answering (noNamedArgs 64 (now (cells .entry)) (now (area .entry))) r ⌝ }
 {
     let asked = ask_call(cells, area);
     if let Answer::Refused(question) = asked {

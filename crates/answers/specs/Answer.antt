@@ -1,7 +1,8 @@
--- 01's number and detail for each answer of collection, and the bytes of the name in a detail.
-use mathlib.Core.Bool.{Bool, true, false}
+-- 01's number and detail for each answer of collection, which numbers an answer can have, and the bytes of the name in a detail.
+use mathlib.Core.Bool.{Bool, true, false, _&&_}
 use mathlib.Core.List.{List, []}
 use Prim.Native.Nat.{ℕ}
+use lib.Dec.{leb}
 use Rattle.rules.specs.Text.{startOf, sizeOf}
 use Rattle.rules.specs.Answer as rules
 use Rattle.rules.specs.Placement as placement
@@ -17,6 +18,22 @@ placeOf area payload = record { area = area; start = startOf payload; size = siz
 
 abbrev pub countsOf : Counts → placement.Counts
 countsOf c = record { taken = c .taken; defaulted = c .defaulted; star = c .star; named = c .named }
+
+-- a question about a record or the board has a number from 1 to 14: those from 15 on have answers of their own, so that no outcome is told
+-- by two answers
+abbrev pub isNumbered : Collected → Bool
+isNumbered (Accepted c) = true
+isNumbered (Record n) = leb 1 n && leb n 14
+isNumbered ArgsArrayIsNotIterable = true
+isNumbered (RepeatedParameter name) = true
+isNumbered KwArgsIsNotDict = true
+isNumbered ArgsValueIsNotString = true
+isNumbered (RepeatedArg name) = true
+isNumbered (MissingPositionalOnly name) = true
+isNumbered (Missing name) = true
+isNumbered (MissingNamedOnly name) = true
+isNumbered (ExtraPositionalArg n) = true
+isNumbered (ExtraNamedArg n name) = true
 
 -- the outcome that an answer tells, with the board as it is left
 abbrev pub told : Collected → List ℕ → Outcome

@@ -88,7 +88,7 @@ module _ (cells area : List ℕ) where
       record {
         answer = ap answerOf (none .answer) ∙ e;
         fine = λ f. never-fine n (sym (none .answer) ∙ f);
-        refused = λ k f. none .none;
+        refused = λ k f. none .list;
       }
 
   pub ask-1 : wholeSteps 64 cells ≡ false → refuse 1 noDetail ≡ askParameters 64 cells area

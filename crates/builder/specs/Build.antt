@@ -7,7 +7,7 @@ use Rattle.rules.specs.Parameters.{posOnly, Parameter, positionalOnlyCount, pos
 use Rattle.rules.specs.ParameterQuestions.{askSteps, askParameters, listOf}
 use Rattle.builder.specs.Params.{parametersIn}
 use Rattle.cells.specs.Answer.{answerOf}
-use Rattle.builder.specs.Spec.{indexOf, listIn, Built}
+use Rattle.builder.specs.Spec.{indexOf, listIn, Built, emptyList}
 use Rattle.cells.specs.declared.answer.Answer.the-variants.{Fine, Refused}
 use Rattle.builder.specs.declared.spec.Stepped.{Stepped}
 use Rattle.builder.specs.declared.spec.ParametersSpec.{ParametersSpec}
@@ -29,8 +29,8 @@ pub record IsList (area : List ℕ) (l : ParametersSpec) (qs : List Parameter) :
   pub args : indexOf (l .indices .args) ≡ argsIndex qs
   pub kwargs : indexOf (l .indices .kwargs) ≡ kwargsIndex qs
 
--- the first "no" of questions 1 to 8, or the list that the record describes; a refused list has no parameter
+-- the first "no" of questions 1 to 8, or the list that the record describes; a refused list is the one without a parameter
 pub record Building (cells area : List ℕ) (r : Finished) : Type 0 where
   pub answer : answerOf (r .answer) ≡ askParameters 64 cells area
   pub fine : r .answer ≡ Fine → IsList area (r .list) (listOf cells area)
-  pub refused : (n : ℕ) → r .answer ≡ Refused n → r .list .params .len ≡ 0
+  pub refused : (n : ℕ) → r .answer ≡ Refused n → r .list ≡ emptyList

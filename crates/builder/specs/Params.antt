@@ -3,7 +3,7 @@ use mathlib.Core.Bool.{Bool, not, _&&_, _||_}
 use mathlib.Core.List.{List}
 use Prim.Native.Nat.{ℕ, zero, suc}
 use lib.Dec.{ltb}
-use lib.ListN.{getD}
+use lib.ListN.{getD, replicate}
 use Rattle.rules.specs.Answer.{Answer, ask, _then_}
 use Rattle.rules.specs.Listing.{any}
 use Rattle.rules.specs.Text.{sameBytes, bytesAt, textIn}
@@ -57,6 +57,18 @@ parameterAt area p i =
 -- the list that they are
 unfoldable pub parametersIn : List ℕ → Parameters → List Parameter
 parametersIn area p = listed (parameterAt area p) 0 (p .len)
+
+-- no parameter, in columns of zeros
+abbrev pub noParameters : Parameters
+noParameters =
+    record {
+      codes = replicate 64 0;
+      styles = replicate 64 0;
+      names = replicate 64 0;
+      «default_kinds» = replicate 64 0;
+      «default_payloads» = replicate 64 0;
+      len = 0;
+    }
 
 -- nameable: of codes 1 to 3, under a style that takes a name
 unfoldable pub mayBeNamed : ℕ → ℕ → Bool

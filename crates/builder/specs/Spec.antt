@@ -10,7 +10,7 @@ use Rattle.rules.specs.ParameterRecord.{Step as RecordStep}
 use Rattle.rules.specs.Parameters.{Style, posOnly, posOrNamed, namedOnly, noMore, Parameter, act, nextStyle, added, positionalOnlyCount, positionalCount, argsIndex, kwargsIndex}
 use Rattle.rules.specs.ParameterQuestions.{askStep}
 use Rattle.cells.specs.Answer.{answerOf}
-use Rattle.builder.specs.Params.{styleOf, kindFor, stepOf, parametersIn}
+use Rattle.builder.specs.Params.{styleOf, kindFor, stepOf, parametersIn, noParameters}
 use Rattle.builder.specs.declared.params.CurrentParameterStyle.{CurrentParameterStyle}
 use Rattle.builder.specs.declared.params.Parameters.{Parameters}
 use Rattle.builder.specs.declared.params.Step.{Step}
@@ -130,10 +130,15 @@ pub record Stepping (area : List ℕ) (b : ParametersSpecBuilder) (t : RecordSte
       ≡ listIn area b ++ added area (styleIn b) (act t) (t .name)
   pub built : Built area b → Built area (r .builder)
 
--- a list that is refused has no parameter
+-- the list without a parameter
+abbrev pub emptyList : ParametersSpec
+emptyList =
+    record { params = noParameters; indices = record { «num_positional_only» = 0; «num_positional» = 0; args = Absent; kwargs = Absent } }
+
+-- a list that is refused is that one
 pub record NoList (n : ℕ) (r : Finished) : Type 0 where
   pub answer : r .answer ≡ Refused n
-  pub none : r .list .params .len ≡ 0
+  pub list : r .list ≡ emptyList
 
 -- the list of a state, with its counts and indices
 abbrev pub finished : ParametersSpecBuilder → ParametersSpec
@@ -149,8 +154,8 @@ finished b =
           };
     }
 
--- the end: question 8, and the list
+-- the end: question 8, and the list, or the one without a parameter
 pub record Finishing (b : ParametersSpecBuilder) (r : Finished) : Type 0 where
   pub answer : answerOf (r .answer) ≡ ask 8 (leb (b .«positional_only») (b .positional))
   pub fine : r .answer ≡ Fine → r .list ≡ finished b
-  pub refused : (n : ℕ) → r .answer ≡ Refused n → r .list .params .len ≡ 0
+  pub refused : (n : ℕ) → r .answer ≡ Refused n → r .list ≡ emptyList

@@ -7,7 +7,7 @@ ghost use mathlib.Core.Bool.{cond};
 ghost use Prim.Native.Nat.{_+_, _≤_, _<_};
 ghost use Rattle.rules.specs.Text.{bytesAt};
 ghost use Rattle.rules.specs.Parameters.{rank, takesName, takesPosition, comesBefore, posOrNamed};
-ghost use Rattle.builder.specs.Params.{styleOf, mayBeNamed, knownIn, newIn};
+ghost use Rattle.builder.specs.Params.{styleOf, noParameters, mayBeNamed, knownIn, newIn};
 
 // The most parameters that a list can hold.
 pub const CAPACITY: usize = 64;
@@ -33,7 +33,9 @@ pub struct Step {
 }
 
 // The parameters, a column for each thing that is kept of one: the code of the step that added it (1, 2, 3, 6 or 7), the number of
-// its style (0, 1 or 2), its name's payload, and the two cells of its default.
+// its style (0, 1 or 2), its name's payload, and the two cells of its default. What `build` promises of a list (`Building`) are the parameters
+// that the columns spell. That leaves open the code of **kwargs, for which every number but 1, 2, 3 and 6 would do, the default's cells of every
+// other code than 3, and all cells from `len` on: nothing that reads the columns tells these apart.
 pub struct Parameters {
     pub codes: [u8; CAPACITY],
     pub styles: [u8; CAPACITY],
@@ -130,7 +132,7 @@ pub fn bytes_at<'a>(area: &'a [u8], payload: u64) -> &'a [u8]
 
 impl Parameters {
     pub fn new() -> Self
-        ensures { λ r. ⌜ r .len ≡ 0 ⌝ }
+        ensures { λ r. ⌜ r ≡ noParameters ⌝ }
     {
         Self {
             codes: [0; CAPACITY],

@@ -14,7 +14,7 @@ ghost use Rattle.rules.specs.ParameterRecord.{Step as RecordStep};
 ghost use Rattle.rules.specs.Parameters.{act, slash, bareStar, comesBefore, posOnly, noMore, namedOnly};
 ghost use Rattle.cells.specs.Answer.{answerOf};
 ghost use Rattle.builder.specs.Params.{styleOf, stepOf, askAdding};
-ghost use Rattle.builder.specs.Spec.{styleIn, Empty, NoList, Pushed, Stepping, Finishing, refusedBy, withStyle, underStyle};
+ghost use Rattle.builder.specs.Spec.{styleIn, Empty, emptyList, NoList, Pushed, Stepping, Finishing, refusedBy, withStyle, underStyle};
 
 // A parameter's index, where there is such a parameter.
 pub enum Index {
@@ -59,7 +59,7 @@ pub struct ParametersSpec {
     pub indices: DefParamIndices,
 }
 
-// What question 8 answers, and the list; a list without parameters where it is refused.
+// What question 8 answers, and the list; the one without a parameter where it is refused.
 pub struct Finished {
     pub answer: Answer,
     pub list: ParametersSpec,
@@ -67,7 +67,7 @@ pub struct Finished {
 
 impl ParametersSpec {
     pub fn empty() -> Self
-        ensures { λ r. ⌜ r .params .len ≡ 0 ⌝ }
+        ensures { λ r. ⌜ r ≡ emptyList ⌝ }
     {
         Self {
             params: Parameters::new(),

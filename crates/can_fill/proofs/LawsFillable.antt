@@ -1,7 +1,8 @@
--- Laws of can-fill of two records: what passing 1 to 11 gives, the written names as the code reads them, and the answer by its parts.
+-- Laws of can-fill of two records: what passing 1 to 11 gives, the written names as the code reads them, and the answer by its parts, which
+-- forgets nothing of what it tells.
 -- `h` is the head that was read.
 -- Assumes nothing.
-use mathlib.Core.Path.{_≡_, ap, _∙_}
+use mathlib.Core.Path.{_≡_, refl, sym, ap, _∙_}
 use mathlib.Core.Bool.{true}
 use mathlib.Core.List.{List, map}
 use Prim.Native.Nat.{ℕ, _+_, _*_, _<_}
@@ -13,7 +14,7 @@ use Rattle.rules.specs.Answer.{fine, refuse, Detail}
 use Rattle.rules.specs.CallRecord.{Head, Pair, pairWidth, readHead, readPair, readCall, namedIn}
 use Rattle.rules.specs.CallQuestions.{askForm}
 use Rattle.rules.specs.ParameterQuestions.{askParameters, listOf}
-use Rattle.rules.specs.CanFill.{canFill, refusedFilling, answered, fillable}
+use Rattle.rules.specs.CanFill.{canFill, Filling, refusedFilling, answered, fillable}
 use Rattle.cells.specs.Record.{pairAt}
 use Rattle.cells.specs.Listed.{listed}
 use Rattle.builder.specs.Params.{parametersIn}
@@ -25,7 +26,9 @@ use Rattle.calls.proofs.LawsCall.{call-named, lengths-few, form-lengths}
 use Rattle.findings.specs.Resolved.{namedAt}
 use Rattle.findings.proofs.LawsRecord.{pairs-listed, positionals-are, name-formed}
 use Rattle.findings.specs.Resolve.{Prepared}
-use Rattle.can_fill.specs.CanFill.{writtenIn, FillReady}
+use Rattle.can_fill.specs.CanFill.{fillingIn, writtenIn, FillReady}
+use Rattle.can_fill.specs.declared.CanFill.{CanFill}
+use Rattle.can_fill.specs.declared.CanFill.the-variants.{Refused, Answer}
 
 module _ (cells area : List ℕ) (h : Head) (read : h ≡ readHead cells) where
   written-are : map (λ p. namedIn area p .name .bytes) (readCall cells .named) ≡ writtenIn area cells h
@@ -62,3 +65,18 @@ module _ (cells area specCells spec : List ℕ) where
         → fillable 64 64 specCells spec cells area ≡ answered (canFill (parametersIn spec (l .params)) (h .p) (writtenIn area cells h))
     unfolding fillable
     fillable-answered h read passed l is = rw (listed-fine, passed, positionals-are cells area h read, written-are cells area h read, is)
+
+-- ---- one answer
+
+-- the answer read back: every number has one case
+abbrev answerFrom : Filling → CanFill
+answerFrom (refusedFilling n d) = Refused n
+answerFrom (answered b) = Answer b
+
+told-back : (r : CanFill) → answerFrom (fillingIn r) ≡ r
+told-back (Refused n) = refl
+told-back (Answer b) = refl
+
+-- two answers that tell the same are the same
+pub filling-one : (r r' : CanFill) → fillingIn r ≡ fillingIn r' → r ≡ r'
+filling-one r r' e = sym (told-back r) ∙ ap answerFrom e ∙ told-back r'

@@ -23,6 +23,7 @@ use Rattle.rules.specs.Binding.{askBinding}
 use Rattle.rules.specs.Collection.{Outcome, accepted, outcomeOf, callOf, askRecords, collection}
 use Rattle.rules.proofs.LawsListing.{and-left, and-right}
 use Rattle.rules.proofs.LawsRecord.{length-writeEach}
+use Rattle.rules.proofs.LawsNumbers.{number-in, wider-in, parameters-in, call-in}
 use Rattle.rules.proofs.LawsShort.{tally-most, binding-short, counts-short, written-short}
 use Rattle.cells.specs.Record.{pairAt}
 use Rattle.cells.specs.Out.{stored}
@@ -30,7 +31,7 @@ use Rattle.cells.specs.Listed.{listed}
 use Rattle.builder.specs.Params.{parametersIn}
 use Rattle.builder.specs.declared.spec.ParametersSpec.{ParametersSpec}
 use Rattle.cells.proofs.LawsListed.{length-listed, elements}
-use Rattle.answers.specs.Answer.{told, answerIn, isRefusal, countsOf}
+use Rattle.answers.specs.Answer.{isNumbered, told, answerIn, isRefusal, countsOf}
 use Rattle.calls.specs.Head.{namedFrom, entriesFrom}
 use Rattle.calls.specs.Keys.{askKeys}
 use Rattle.calls.proofs.LawsCall.{call-in-turn}
@@ -56,28 +57,28 @@ paths-agree o before after after' r r' e e' = (e .answer ∙ sym (e' .answer), e
 -- ---- a refusal
 
 module _ (qs : List Parameter) (P : List Value) (N : List Named) (board : List ℕ) where
-  refusal-ends : (a : Collected) → isRefusal a ≡ true → Ends (outcomeOf (answerIn a) qs P N board) board board a
-  refusal-ends (Accepted c) e = absurd (false≢true e)
-  refusal-ends (Record n) e = record { answer = refl; board = refl }
-  refusal-ends ArgsArrayIsNotIterable e = record { answer = refl; board = refl }
-  refusal-ends (RepeatedParameter payload) e = record { answer = refl; board = refl }
-  refusal-ends KwArgsIsNotDict e = record { answer = refl; board = refl }
-  refusal-ends ArgsValueIsNotString e = record { answer = refl; board = refl }
-  refusal-ends (RepeatedArg payload) e = record { answer = refl; board = refl }
-  refusal-ends (MissingPositionalOnly payload) e = record { answer = refl; board = refl }
-  refusal-ends (Missing payload) e = record { answer = refl; board = refl }
-  refusal-ends (MissingNamedOnly payload) e = record { answer = refl; board = refl }
-  refusal-ends (ExtraPositionalArg n) e = record { answer = refl; board = refl }
-  refusal-ends (ExtraNamedArg n payload) e = record { answer = refl; board = refl }
+  refusal-ends : (a : Collected) → isRefusal a ≡ true → isNumbered a ≡ true → Ends (outcomeOf (answerIn a) qs P N board) board board a
+  refusal-ends (Accepted c) e m = absurd (false≢true e)
+  refusal-ends (Record n) e m = record { answer = refl; numbered = m; board = refl }
+  refusal-ends ArgsArrayIsNotIterable e m = record { answer = refl; numbered = m; board = refl }
+  refusal-ends (RepeatedParameter payload) e m = record { answer = refl; numbered = m; board = refl }
+  refusal-ends KwArgsIsNotDict e m = record { answer = refl; numbered = m; board = refl }
+  refusal-ends ArgsValueIsNotString e m = record { answer = refl; numbered = m; board = refl }
+  refusal-ends (RepeatedArg payload) e m = record { answer = refl; numbered = m; board = refl }
+  refusal-ends (MissingPositionalOnly payload) e m = record { answer = refl; numbered = m; board = refl }
+  refusal-ends (Missing payload) e m = record { answer = refl; numbered = m; board = refl }
+  refusal-ends (MissingNamedOnly payload) e m = record { answer = refl; numbered = m; board = refl }
+  refusal-ends (ExtraPositionalArg n) e m = record { answer = refl; numbered = m; board = refl }
+  refusal-ends (ExtraNamedArg n payload) e m = record { answer = refl; numbered = m; board = refl }
 
-  pub ends-refused : (asked : Answer) (a : Collected) → isRefusal a ≡ true → answerIn a ≡ asked → Ends (outcomeOf asked qs P N board) board board a
-  ends-refused asked a u e = subst (λ x. Ends (outcomeOf x qs P N board) board board a) e (refusal-ends a u)
+  pub ends-refused : (asked : Answer) (a : Collected) → isRefusal a ≡ true → isNumbered a ≡ true → answerIn a ≡ asked → Ends (outcomeOf asked qs P N board) board board a
+  ends-refused asked a u m e = subst (λ x. Ends (outcomeOf x qs P N board) board board a) e (refusal-ends a u m)
 
   -- ---- an acceptance
 
   pub ends-accepted : (asked : Answer) (after : List ℕ) (c : Counts) → asked ≡ fine → countsOf c ≡ rules.countsOf qs P N → after ≡ boardAfter qs P N board → Ends (outcomeOf asked qs P N board) board after (Accepted c)
   ends-accepted asked after c e counts so =
-      subst (λ x. Ends (outcomeOf x qs P N board) board after (Accepted c)) (sym e) (record { answer = ap₂ accepted counts so; board = so })
+      subst (λ x. Ends (outcomeOf x qs P N board) board after (Accepted c)) (sym e) (record { answer = ap₂ accepted counts so; numbered = refl; board = so })
 
 -- ---- the general path
 
@@ -241,7 +242,8 @@ module _ (qs : List Parameter) (cells area board : List ℕ) where
 
   pub bound-refused : (n : ℕ) → askCall 64 cells area ≡ refuse n none → Ends (boundTo qs cells area board) board board (Record n)
   unfolding boundTo
-  bound-refused n e = ends-refused qs (positionalsOf c) (namedOf c) board (askCall 64 cells area then askBoard 64 64 board then askBinding qs c) (Record n) refl (sym (ap (λ a. a then askBoard 64 64 board then askBinding qs c) e))
+  bound-refused n e = ends-refused qs (positionalsOf c) (namedOf c) board (askCall 64 cells area then askBoard 64 64 board then askBinding qs c) (Record n) refl
+      (number-in 1 14 (askCall 64 cells area) n none (wider-in 9 13 1 14 (askCall 64 cells area) (omega arith) (omega arith) (call-in 64 cells area)) e) (sym (ap (λ a. a then askBoard 64 64 board then askBinding qs c) e))
 
   -- what 9 to 12 refuse, and 13 after them
   pub bound-keys : (n : ℕ) → askKeys 64 cells area ≡ refuse n none → Ends (boundTo qs cells area board) board board (Record n)
@@ -257,7 +259,7 @@ module _ (qs : List Parameter) (cells area board : List ℕ) where
     pub bound-short-board : length board < 896 → Ends (boundTo qs cells area board) board board (Record 14)
     unfolding boundTo
     bound-short-board low =
-        ends-refused qs (positionalsOf c) (namedOf c) board (askCall 64 cells area then askBoard 64 64 board then askBinding qs c) (Record 14) refl
+        ends-refused qs (positionalsOf c) (namedOf c) board (askCall 64 cells area then askBoard 64 64 board then askBinding qs c) (Record 14) refl refl
         (sym (ap (λ a. a then askBoard 64 64 board then askBinding qs c) passed ∙ ap (λ a. a then askBinding qs c) (board-asked ∙ ap (ask 14) (lt-leb 896 (length board) low))))
 
     pub bound-binding : 896 ≤ length board → boundTo qs cells area board ≡ bindingOf qs c board
@@ -279,6 +281,7 @@ module _ (specCells spec cells area board : List ℕ) where
   collection-refused n e =
       ends-refused (listOf specCells spec) (positionalsOf (callOf cells area)) (namedOf (callOf cells area)) board
       ((askParameters 64 specCells spec then askCall 64 cells area then askBoard 64 64 board) then askBinding (listOf specCells spec) (callOf cells area)) (Record n) refl
+      (number-in 1 14 (askParameters 64 specCells spec) n none (wider-in 1 8 1 14 (askParameters 64 specCells spec) (omega arith) (omega arith) (parameters-in 64 specCells spec)) e)
       (sym (ap (λ a. (a then askCall 64 cells area then askBoard 64 64 board) then askBinding (listOf specCells spec) (callOf cells area)) e))
 
   pub collection-bound : (qs : List Parameter) → askParameters 64 specCells spec ≡ fine → qs ≡ listOf specCells spec → boundTo qs cells area board ≡ collection 64 64 specCells spec cells area board

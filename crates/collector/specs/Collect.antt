@@ -1,6 +1,6 @@
 -- What collection promises, from a call that passed its questions up to raw records, and when the short path is taken.
 use mathlib.Core.Path.{_≡_}
-use mathlib.Core.Bool.{Bool, _&&_}
+use mathlib.Core.Bool.{Bool, true, _&&_}
 use mathlib.Core.List.{List, []}
 use Prim.Native.Nat.{ℕ, _≤_}
 use lib.Dec.{eqb}
@@ -12,7 +12,7 @@ use Rattle.rules.specs.CallQuestions.{askCall, askBoard}
 use Rattle.rules.specs.Binding.{askBinding}
 use Rattle.rules.specs.Collection.{Outcome, outcomeOf, boardLeft, callOf}
 use Rattle.builder.specs.declared.spec.ParametersSpec.{ParametersSpec}
-use Rattle.answers.specs.Answer.{told}
+use Rattle.answers.specs.Answer.{isNumbered, told}
 use Rattle.calls.specs.Values.{valuesIn}
 use Rattle.builder.specs.Params.{parametersIn}
 use Rattle.calls.specs.Keys.{askKeys}
@@ -26,9 +26,11 @@ use Rattle.calls.specs.declared.head.Head.{Head as CodeHead}
 use Rattle.collector.specs.declared.collect.Begun.{Begun}
 use Rattle.collector.specs.declared.collect.Begun.the-variants.{Ended, Open}
 
--- an answer, with the board before and after it, is an outcome of `rules`: number and detail, or the counts; and every cell of the board
+-- an answer, with the board before and after it, is an outcome of `rules`: number and detail, or the counts, in the one answer that tells them;
+-- and every cell of the board
 pub record Ends (outcome : Outcome) (before after : List ℕ) (r : Collected) : Type 0 where
   pub answer : told r after ≡ outcome
+  pub numbered : isNumbered r ≡ true
   pub board : after ≡ boardLeft outcome before
 
 -- how a call that passed 9 to 14 ends against a list: 15 to 24, and then placement

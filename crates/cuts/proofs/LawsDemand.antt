@@ -161,6 +161,7 @@ module _ (specCells specBytes positionals named callBytes : List ℕ) (c : Cut) 
             and-no-left (sizesRight (length positionals) (length named) c) (passing specCells specBytes (valuesOf positionals) (pairsOf named) callBytes (length before)) e;
         untouched = λ z. refl;
         inside = λ x y z. outside-ended x y z;
+        numbered = λ x y z. outside-ended x y z;
         ended = λ x y z. outside-ended x y z;
       }
 
@@ -235,6 +236,7 @@ module _ (specCells specBytes positionals named callBytes : List ℕ) (c : Cut) 
           outside = λ z. tested ∙ sym asked ∙ tried .outside z;
           untouched = λ z. tried .untouched z;
           inside = λ x y z. tested ∙ sym asked ∙ tried .passed x y z;
+          numbered = λ x y z. tried .collected x y z .numbered;
           ended = λ x y z.
               demanded after x y (domain (sym asked ∙ tried .passed x y z))
               (subst (λ l. Ends (collection 64 64 specCells specBytes l callBytes before) before after x) is-cut (tried .collected x y z))

@@ -18,7 +18,7 @@ use Rattle.rules.specs.Placement.{Counts}
 use Rattle.rules.specs.Collection.{Outcome, refused, accepted, boardLeft, callOf, collection}
 use Rattle.rules.specs.CanFill.{answered, fillable}
 use Rattle.rules.specs.Demand3.{Cut, merge, isAccepted, Domain, cutCells, ending, Placed}
-use Rattle.answers.specs.Answer.{told}
+use Rattle.answers.specs.Answer.{isNumbered, told}
 use Rattle.can_fill.specs.CanFill.{fillingIn}
 use Rattle.collector.specs.Collect.{Ends}
 use Rattle.answers.specs.declared.answer.Collected.{Collected}
@@ -79,6 +79,8 @@ pub record Playing (specCells specBytes positionals named callBytes : List ℕ) 
   pub untouched : r ≡ Outside → after ≡ before
   -- what is played lies inside
   pub inside : (e : Collected) (f : CanFill) → r ≡ Ended e f → inDomain specCells specBytes positionals named callBytes c before ≡ true
+  -- it is told in the one answer that tells it
+  pub numbered : (e : Collected) (f : CanFill) → r ≡ Ended e f → isNumbered e ≡ true
   -- and all of demand 3 holds of what is returned
   pub ended : (e : Collected) (f : CanFill) → r ≡ Ended e f → Demanded specCells specBytes callBytes (valuesOf positionals) (pairsOf named) c before after (told e after) f
 

@@ -53,7 +53,7 @@ pub accessing-says
     : {access : Access} {written before left : List ℕ} {a : Accessed} {told after : List ℕ} {r : ℕ}
     → Accessing access written before left a → told ≡ accessAnswer (accessIn a) → Says told after r
     → Says (accessAnswer access) after r × (left ≡ leftBy access written before)
-accessing-says did t s = (says accessAnswer (did .answer) t s, did .output)
+accessing-says did t s = (says accessAnswer (did .answering .answer) t s, did .output)
 
 -- collection, whose cells are told whatever the board
 pub ends-says

@@ -1,7 +1,7 @@
 -- Laws of binding against cells that are a prepared list, in this order: what holds of the list that they spell; the list in the builder's
--- columns is one that binding can lean on; how the call ends. Assumes nothing.
+-- columns is one that binding can lean on; how the call ends, which one answer tells. Assumes nothing.
 use mathlib.Core.Path.{_≡_, refl, sym, ap, _∙_}
-use mathlib.Core.Bool.{Bool, true, false, not, cond, _&&_, _||_}
+use mathlib.Core.Bool.{Bool, true, false, not, cond, _&&_, _||_, false≢true}
 use mathlib.Core.List.{List, [], _∷_, map}
 use Prim.Native.Nat.{ℕ, zero, suc, _+_, _*_, _≤_, _<_}
 use native.Mathlib.Nat.{zero-add}
@@ -15,7 +15,8 @@ use Rattle.rules.specs.Text.{inside, isText, sizeOf, textIn}
 use Rattle.rules.specs.Value.{Value}
 use Rattle.rules.specs.Parameters.{Act, adds, slash, bareStar, unknownCode, act, actOf, plain, takesName, positional, nameable, nextStyle, rank}
 use Rattle.rules.specs.ParameterQuestions.{hasName, stepName}
-use Rattle.rules.specs.Collection.{Outcome}
+use Rattle.rules.specs.Answer.{none}
+use Rattle.rules.specs.Collection.{Outcome, refused}
 use Rattle.rules.specs.Passed.{positionalFirst, namesApart, nameInside}
 use Rattle.rules.proofs.LawsListing.{and-left, and-right, and-both}
 use Rattle.cells.proofs.LawsListed.{length-listed, getD-listed}
@@ -24,12 +25,15 @@ use Rattle.builder.specs.Build.{IsList}
 use Rattle.builder.specs.declared.spec.ParametersSpec.{ParametersSpec}
 use Rattle.builder.proofs.LawsCodes.{code-3, code-4}
 use Rattle.findings.specs.Resolve.{Prepared}
+use Rattle.answers.specs.Answer.{isNumbered, told}
 use Rattle.answers.specs.declared.answer.Collected.{Collected}
+use Rattle.answers.proofs.LawsTold.{answerFrom, told-back, told-one}
 use Rattle.collector.specs.Collect.{Ends, boundTo}
 use Rattle.prepared.specs.Prepared.{Row, rowsIn, listIn, parameterOfRow, rowRight, rowsRight, isPrepared, preparedLength, frontWidth, rowWidth, boundPrepared}
 use Rattle.prepared.specs.Rows.{rowAt, stands, Whole, Narrow, Keyed}
 use Rattle.prepared.specs.Load.{byPosition}
-use Rattle.prepared.specs.Bind.{EndsBound}
+use Rattle.prepared.specs.Bind.{numberedBy, toldBy, EndsBound}
+use Rattle.prepared.specs.declared.PreparedBound.{PreparedBound}
 use Rattle.prepared.specs.declared.PreparedBound.the-variants.{NotPrepared, Bound}
 use Rattle.prepared.proofs.LawsRows.{never, stands-0, stands-4, cellsAt, rowAt-cells, rows-listed}
 use Rattle.prepared.proofs.LawsCheck.{right-name, right-stands, right-style, rows-keyed}
@@ -152,7 +156,7 @@ stands-small code style v t = split (decLe 8 code)
 -- ---- cells that are a prepared list
 
 bound-ends : (o : Outcome) (before after : List ℕ) (r : Collected) → Ends o before after r → EndsBound o before after (Bound r)
-bound-ends o before after r e = record { answer = e .answer; board = e .board }
+bound-ends o before after r e = record { answer = e .answer; numbered = e .numbered; board = e .board }
 
 module _ (area cells : List ℕ) (t : isPrepared area cells ≡ true) where
   abbrev few : Bool
@@ -235,4 +239,17 @@ module _ (area cells : List ℕ) (t : isPrepared area cells ≡ true) where
 
 pub unprepared-ends : (area cells callCells callBytes before : List ℕ) → isPrepared area cells ≡ false → EndsBound (boundPrepared area cells callCells callBytes before) before before NotPrepared
 unfolding boundPrepared
-unprepared-ends area cells callCells callBytes before t = rw t (record { answer = refl; board = refl })
+unprepared-ends area cells callCells callBytes before t = rw t (record { answer = refl; numbered = refl; board = refl })
+
+-- ---- one answer
+
+-- collection has no answer for 100
+bound-other : (r : Collected) (after : List ℕ) → isNumbered r ≡ true → told r after ≡ refused 100 none → ⊥
+bound-other r after n e = false≢true (sym (ap isNumbered (sym (told-back r after n) ∙ ap answerFrom e)) ∙ n)
+
+-- two answers that tell the same are the same
+pub bound-one : (r r' : PreparedBound) (after after' : List ℕ) → numberedBy r ≡ true → numberedBy r' ≡ true → toldBy r after ≡ toldBy r' after' → r ≡ r'
+bound-one NotPrepared NotPrepared after after' n n' e = refl
+bound-one NotPrepared (Bound r') after after' n n' e = absurd (bound-other r' after' n' (sym e))
+bound-one (Bound r) NotPrepared after after' n n' e = absurd (bound-other r after n e)
+bound-one (Bound r) (Bound r') after after' n n' e = ap Bound (told-one r r' after after' n n' e)

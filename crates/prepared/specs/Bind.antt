@@ -9,7 +9,7 @@ use Rattle.rules.specs.Cells.{over}
 use Rattle.rules.specs.Answer.{Answer, fine, refuse, none}
 use Rattle.rules.specs.ParameterQuestions.{askParameters, listOf}
 use Rattle.rules.specs.Collection.{Outcome, refused, boardLeft}
-use Rattle.answers.specs.Answer.{told}
+use Rattle.answers.specs.Answer.{isNumbered, told}
 use Rattle.prepared.specs.Prepared.{preparedLength, preparedFrom}
 use Rattle.prepared.specs.declared.Preparation.{Preparation}
 use Rattle.prepared.specs.declared.Preparation.the-variants.{Written, Refused, NoRoom}
@@ -41,6 +41,13 @@ abbrev pub toldBy : PreparedBound → List ℕ → Outcome
 toldBy NotPrepared after = refused 100 none
 toldBy (Bound r) after = told r after
 
+-- the numbers of a call's answer are those of collection, so that 100 is told in one way only
+abbrev pub numberedBy : PreparedBound → Bool
+numberedBy NotPrepared = true
+numberedBy (Bound r) = isNumbered r
+
+-- an answer, with the board before and after it, is an outcome, in the one answer that tells it; and every cell of the board
 pub record EndsBound (outcome : Outcome) (before after : List ℕ) (r : PreparedBound) : Type 0 where
   pub answer : toldBy r after ≡ outcome
+  pub numbered : numberedBy r ≡ true
   pub board : after ≡ boardLeft outcome before

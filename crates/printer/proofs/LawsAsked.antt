@@ -1,5 +1,5 @@
 -- Laws of what `parameters_str` answers, by the questions: a refusal of 1 to 8 leaves the output as it was, and so does 29; past 29 the list is
--- ready to be written, and what is written is the definition's. Assumes nothing.
+-- ready to be written, and what is written is the definition's. At the end: an answer forgets nothing of what it tells. Assumes nothing.
 use mathlib.Core.Path.{_≡_, refl, sym, ap, ap₂, _∙_}
 use mathlib.Core.List.{List}
 use Prim.Native.Nat.{ℕ, _≤_, _<_}
@@ -11,7 +11,7 @@ use Rattle.rules.specs.Answer.{fine, _then_, ask}
 use Rattle.rules.specs.Cells.{over}
 use Rattle.rules.specs.Parameters.{argsIndex, kwargsIndex}
 use Rattle.rules.specs.ParameterQuestions.{askParameters, listOf}
-use Rattle.rules.specs.Accessors.{gives, accessOf, leftBy}
+use Rattle.rules.specs.Accessors.{Access, denied, gives, accessOf, leftBy}
 use Rattle.rules.specs.Printed.{printed, printedLeast, parametersStr}
 use Rattle.rules.proofs.LawsPrinted.{list-fits}
 use Rattle.cells.specs.Answer.{answerOf}
@@ -73,3 +73,18 @@ module _ (cells area out : List ℕ) (b : Finished) (built : Building cells area
           (ap₂ (λ x t. accessOf (x then ask 29 t) (length (printed (listOf cells area)))) asked (le-leb 8192 (length out) h)
           ∙ ap gives (sym (w .ends ∙ ap (λ qs. length (printed qs)) same)))
           (w .held ∙ ap (λ qs. over (printed qs) out) same)
+
+-- ---- one answer
+
+-- the answer read back: every number has one case
+abbrev answerFrom : Access → Printed
+answerFrom (denied n d) = Refused n
+answerFrom (gives k) = Length k
+
+told-back : (r : Printed) → answerFrom (accessIn r) ≡ r
+told-back (Length k) = refl
+told-back (Refused n) = refl
+
+-- two answers that tell the same are the same
+pub printed-one : (r r' : Printed) → accessIn r ≡ accessIn r' → r ≡ r'
+printed-one r r' e = sym (told-back r) ∙ ap answerFrom e ∙ told-back r'

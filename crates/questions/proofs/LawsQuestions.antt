@@ -26,7 +26,7 @@ use Rattle.builder.specs.Params.{parameterOf, parameterAt, parametersIn}
 use Rattle.builder.specs.declared.spec.ParametersSpec.{ParametersSpec}
 use Rattle.cells.proofs.LawsListed.{length-listed}
 use Rattle.calls.specs.Head.{namedFrom, entriesFrom}
-use Rattle.answers.specs.Answer.{answerIn, isRefusal}
+use Rattle.answers.specs.Answer.{answerIn}
 use Rattle.findings.specs.Resolved.{namedAt, Resolved}
 use Rattle.findings.specs.Resolve.{pairsFrom}
 use Rattle.findings.specs.Found.{firstNamed, firstMissing}
@@ -91,7 +91,7 @@ placed-refusing l cells h next sources rest count =
     first (firstMissing (l .params .codes) sources next (l .params .len - next))
     (lostTo (h .p + h .s) (l .indices .«num_positional») (indexOf (l .indices .args))) (lostTo count 0 (indexOf (l .indices .kwargs)))
   where
-    styled : (style payload : ℕ) → isRefusal (missingAs style payload) ≡ true
+    styled : (style payload : ℕ) → refusing (Refused (missingAs style payload)) ≡ true
     styled zero payload = refl
     styled (suc zero) payload = refl
     styled (suc (suc style)) payload = refl
@@ -106,7 +106,7 @@ placed-refusing l cells h next sources rest count =
     first none false true = refl
     first none false false = refl
 
-pub judged-refused : (qs : List Parameter) (c : Call) (cells area : List ℕ) (asked : Answer) (sources rest : List ℕ) (a : Collected) → isRefusal a ≡ true → answerIn a ≡ asked → Judging qs c cells area asked sources rest (Refused a)
+pub judged-refused : (qs : List Parameter) (c : Call) (cells area : List ℕ) (asked : Answer) (sources rest : List ℕ) (a : Collected) → refusing (Refused a) ≡ true → answerIn a ≡ asked → Judging qs c cells area asked sources rest (Refused a)
 judged-refused qs c cells area asked sources rest a u e = record { answer = e; refusal = u; resolved = λ count f. let z : _≡_ {A = ℕ} 0 1 = cc in absurd (omega arith) }
 
 module _ (spec : List ℕ) (l : ParametersSpec) (cells area : List ℕ) (h : Head) (next : ℕ) (c : Call) (ready : CallReady spec l cells area h next c) where
@@ -152,17 +152,17 @@ module _ (spec : List ℕ) (l : ParametersSpec) (cells area : List ℕ) (h : Hea
 
   module _ (sources rest : List ℕ) (before : ℕ) (r : Resolved qs cells area (writtenNames area cells h) sources rest before) where
     -- a refusal by 15 or 16 is the call's
-    pub asked-written : (a : Collected) → firstOf (starAs h before) (repeatsAs (l .params .names) next sources before) ≡ Refused a → (isRefusal a ≡ true) × (answerIn a ≡ askBinding qs c)
+    pub asked-written : (a : Collected) → firstOf (starAs h before) (repeatsAs (l .params .names) next sources before) ≡ Refused a → (refusing (Refused a) ≡ true) × (answerIn a ≡ askBinding qs c)
     unfolding starAs repeatsAs
     asked-written a = go (eqb (h .starKind) 2) refl (firstNamed sources 0 next) refl
       where
         go : (b : Bool) → eqb (h .starKind) 2 ≡ b → (o : Option ℕ) → firstNamed sources 0 next ≡ o
             → firstOf (cond b (Refused ArgsArrayIsNotIterable) (Fine before)) (refusedAt o (λ i. RepeatedParameter (getD (l .params .names) i 0)) before) ≡ Refused a
-            → (isRefusal a ≡ true) × (answerIn a ≡ askBinding qs c)
-        go true e o f g = let same : ArgsArrayIsNotIterable ≡ a = cc in subst (λ x. (isRefusal x ≡ true) × (answerIn x ≡ askBinding qs c)) same (refl, asked-star (eqb-true (h .starKind) 2 e))
+            → (refusing (Refused a) ≡ true) × (answerIn a ≡ askBinding qs c)
+        go true e o f g = let same : ArgsArrayIsNotIterable ≡ a = cc in subst (λ x. (refusing (Refused x) ≡ true) × (answerIn x ≡ askBinding qs c)) same (refl, asked-star (eqb-true (h .starKind) 2 e))
         go false e (some i) f g =
             let same : RepeatedParameter (getD (l .params .names) i 0) ≡ a = cc in
-            subst (λ x. (isRefusal x ≡ true) × (answerIn x ≡ askBinding qs c)) same (refl, asked-repeated (eqb-false (h .starKind) 2 e) sources rest before r i f)
+            subst (λ x. (refusing (Refused x) ≡ true) × (answerIn x ≡ askBinding qs c)) same (refl, asked-repeated (eqb-false (h .starKind) 2 e) sources rest before r i f)
         go false e none f g = let z : _≡_ {A = ℕ} 0 1 = cc in absurd (omega arith)
 
     -- where neither refuses, 17 to 24 are left

@@ -1,5 +1,5 @@
 -- What the questions of binding answer, by the list's columns and the sources of names.
-use mathlib.Core.Bool.{Bool, true, false, cond}
+use mathlib.Core.Bool.{Bool, true, false, cond, _&&_}
 use mathlib.Core.List.{List}
 use mathlib.Core.Option.{Option, none, some}
 use Prim.Native.Nat.{ℕ, zero, suc, _+_, _-_, _≤_}
@@ -11,7 +11,7 @@ use Rattle.cells.specs.Record.{pairAt}
 use Rattle.builder.specs.Spec.{indexOf}
 use Rattle.builder.specs.declared.spec.DefParamIndices.{DefParamIndices}
 use Rattle.calls.specs.Head.{Few}
-use Rattle.answers.specs.Answer.{answerIn, isRefusal}
+use Rattle.answers.specs.Answer.{answerIn, isRefusal, isNumbered}
 use Rattle.findings.specs.Found.{firstNamed, firstMissing}
 use Rattle.answers.specs.declared.answer.Collected.{Collected}
 use Rattle.answers.specs.declared.answer.Collected.the-variants.{ArgsArrayIsNotIterable, RepeatedParameter, MissingPositionalOnly, Missing, MissingNamedOnly, ExtraPositionalArg, ExtraNamedArg}
@@ -76,7 +76,7 @@ abbrev pub judgedAnswer : Judged → Answer
 judgedAnswer (Fine count) = fine
 judgedAnswer (Refused a) = answerIn a
 
--- what is handed on as a refusal is one
+-- what is handed on as a refusal is one, and in the one answer that tells it
 abbrev pub refusing : Judged → Bool
 refusing (Fine count) = true
-refusing (Refused a) = isRefusal a
+refusing (Refused a) = isRefusal a && isNumbered a

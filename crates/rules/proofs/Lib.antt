@@ -5,6 +5,7 @@ pub mod LawsText
 pub mod LawsDigits
 pub mod LawsRecord
 pub mod LawsAnswer
+pub mod LawsNumbers
 pub mod LawsParameters
 pub mod LawsPrinted
 pub mod LawsPlacement

@@ -7,7 +7,7 @@ use Rattle.liuwdom.proofs.liuwdom_len.Statement.{statement}
 use Rattle.liuwdom.proofs.liuwdom_len.Tie as tie
 
 returns : tie.Need-returns
-returns c = says accessAnswer (c .before .before .before .len .ensures) (c .before .before .accessed .ensures) (c .write .ensures)
+returns c = says accessAnswer (c .before .before .before .len .ensures .answer) (c .before .before .accessed .ensures) (c .write .ensures)
 
 pub liuwdom-len-spec : {M : Type 1} → statement M
 liuwdom-len-spec = tie.close (tie.spec (λ c κs. search needs) (λ c κs. search needs) (λ c κs. search needs) returns)

@@ -7,7 +7,7 @@ use Rattle.liuwdom.proofs.liuwdom_no_named_args.Statement.{statement}
 use Rattle.liuwdom.proofs.liuwdom_no_named_args.Tie as tie
 
 returns : tie.Need-returns
-returns c = says accessAnswer (c .before .before .before .no-named-args .ensures) (c .before .before .accessed .ensures) (c .write .ensures)
+returns c = says accessAnswer (c .before .before .before .no-named-args .ensures .answer) (c .before .before .accessed .ensures) (c .write .ensures)
 
 pub liuwdom-no-named-args-spec : {M : Type 1} → statement M
 liuwdom-no-named-args-spec =

@@ -1,13 +1,13 @@
 -- `accessors::len::len` meets its contract: the questions in their order, and then a sum of counts that are few.
 -- Assumes nothing.
-use mathlib.Core.Path.{_≡_, sym, ap, _∙_}
+use mathlib.Core.Path.{_≡_, refl, sym, ap, _∙_}
 use native.Mathlib.Omega.{arith}
 use Rattle.rules.specs.Answer.{fine}
 use Rattle.rules.specs.CallQuestions.{askCall}
 use Rattle.cells.specs.Answer.{answerOf}
 use Rattle.calls.specs.Head.{headOf, Few}
 use Rattle.calls.proofs.LawsNamed.{passed-few}
-use Rattle.accessors.proofs.LawsAccess.{len-refused, len-star, len-double, len-gives}
+use Rattle.accessors.proofs.LawsAccess.{call-numbered, len-refused, len-star, len-double, len-gives}
 use borrow.Author.Needs.{needs}
 use Rattle.accessors.proofs.len.len.Statement.{statement}
 use Rattle.accessors.proofs.len.len.Tie as tie
@@ -16,7 +16,8 @@ returns : tie.Need-returns
 returns c =
     let told = c .before in
     let asked = told .before .before in
-    len-refused _ _ _ (sym (asked .ask-call .ensures) ∙ ap answerOf (told .asked .given .1))
+    let e = sym (asked .ask-call .ensures) ∙ ap answerOf (told .asked .given .1) in
+    record { answer = len-refused _ _ _ e; numbered = call-numbered _ _ _ e }
 
 -- 9 to 13 passed
 passed : (c : tie.After-enum-told) → let a = c .before .before .before .before .before .args in askCall 64 (a .cells .now) (a .area .now) ≡ fine
@@ -28,13 +29,13 @@ few c = passed-few _ _ _ (c .read-head .ensures) (passed (c .before))
 returns-2 : tie.Need-returns-2
 returns-2 c =
     let r = c .before .before in
-    len-star _ _ _ (r .read-head .ensures) (passed (r .before)) (c .if1 .taken)
+    record { answer = len-star _ _ _ (r .read-head .ensures) (passed (r .before)) (c .if1 .taken); numbered = refl }
 
 returns-3 : tie.Need-returns-3
 returns-3 c =
     let s = c .before .before in
     let r = s .before .before in
-    len-double _ _ _ (r .read-head .ensures) (passed (r .before)) (s .if1 .left) (c .if2 .taken)
+    record { answer = len-double _ _ _ (r .read-head .ensures) (passed (r .before)) (s .if1 .left) (c .if2 .taken); numbered = refl }
 
 add-positional : tie.Need-add-positional
 add-positional c =
@@ -56,7 +57,7 @@ returns-4 c =
     let d = c .before .before in
     let s = d .before .before in
     let r = s .before .before in
-    len-gives _ _ _ (r .read-head .ensures) (passed (r .before)) (s .if1 .left) (d .if2 .left)
+    record { answer = len-gives _ _ _ (r .read-head .ensures) (passed (r .before)) (s .if1 .left) (d .if2 .left); numbered = refl }
 
 pub len-spec : {M : Type 1} → statement M
 len-spec = tie.close (tie.spec (λ c κs. search needs) (λ c. search needs) returns (λ c. search needs) (λ c κs. search needs) returns-2 returns-3 add-positional add-named add-t9 returns-4)

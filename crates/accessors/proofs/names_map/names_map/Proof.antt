@@ -43,7 +43,7 @@ returns-3 : tie.Need-returns-3
 returns-3 c =
     let e = c .before .before in
     let r = e .before .before .before in
-    names-entries _ _ _ _ (r .read-head .ensures) (passed (r .before)) (e .before .if1 .left) ArgsValueIsNotString 18 none (sym (ap entriesAnswer (c .enum-told2 .given .1)) ∙ e .ask-entries .ensures) refl
+    names-entries _ _ _ _ (r .read-head .ensures) (passed (r .before)) (e .before .if1 .left) ArgsValueIsNotString 18 none (sym (ap entriesAnswer (c .enum-told2 .given .1)) ∙ e .ask-entries .ensures) refl refl
 
 returns-4 : tie.Need-returns-4
 returns-4 c =
@@ -51,7 +51,7 @@ returns-4 c =
     let e = told .before .before in
     let r = e .before .before .before in
     let key = told .entries .given .0 .0 in
-    names-entries _ _ _ _ (r .read-head .ensures) (passed (r .before)) (e .before .if1 .left) (RepeatedArg key) 19 (name (placeOf callArea key)) (sym (ap entriesAnswer (told .entries .given .1)) ∙ e .ask-entries .ensures) refl
+    names-entries _ _ _ _ (r .read-head .ensures) (passed (r .before)) (e .before .if1 .left) (RepeatedArg key) 19 (name (placeOf callArea key)) (sym (ap entriesAnswer (told .entries .given .1)) ∙ e .ask-entries .ensures) refl refl
 
 -- 18 and 19 passed
 none-refused : (c : tie.After-enum-told3) → let r = c .before .before .before .before .before in let a = r .before .before .before .before .before .before .before .before .args in

@@ -11,6 +11,7 @@ use Rattle.cells.specs.Answer.{answerOf}
 use Rattle.cells.specs.Record.{pairAt}
 use Rattle.calls.specs.Head.{headOf}
 use Rattle.answers.specs.Answer.{placeOf}
+use Rattle.accessors.proofs.LawsAccess.{call-numbered}
 use Rattle.accessors.proofs.LawsNames.{entries-formed, names-few, none-refused, none-double, none-text, none-gives, none-extra}
 use borrow.Author.Needs.{needs}
 use Rattle.accessors.proofs.no_named_args.no_named_args.Statement.{statement}
@@ -20,7 +21,8 @@ returns : tie.Need-returns
 returns c =
     let told = c .before in
     let asked = told .before .before in
-    none-refused _ _ _ (sym (asked .ask-call .ensures) ∙ ap answerOf (told .asked .given .1))
+    let e = sym (asked .ask-call .ensures) ∙ ap answerOf (told .asked .given .1) in
+    record { answer = none-refused _ _ _ e; numbered = call-numbered _ _ _ e }
 
 -- 9 to 13 passed
 passed : (c : tie.After-enum-told) → let a = c .before .before .before .before .before .args in askCall 64 (a .cells .now) (a .area .now) ≡ fine
@@ -29,7 +31,7 @@ passed c = sym (c .before .before .ask-call .ensures) ∙ ap answerOf (c .enum-t
 returns-2 : tie.Need-returns-2
 returns-2 c =
     let r = c .before .before in
-    none-double _ _ _ (r .read-head .ensures) (passed (r .before)) (c .if1 .taken)
+    record { answer = none-double _ _ _ (r .read-head .ensures) (passed (r .before)) (c .if1 .taken); numbered = refl }
 
 keys-are-texts-requires : tie.Need-keys-are-texts-requires
 keys-are-texts-requires c κs =
@@ -40,7 +42,7 @@ returns-3 : tie.Need-returns-3
 returns-3 c =
     let k = c .before in
     let r = k .before .before .before in
-    none-text _ _ _ (r .read-head .ensures) (passed (r .before)) (k .before .if1 .left) (sym (k .keys-are-texts .ensures) ∙ not-true _ (c .if2 .taken))
+    record { answer = none-text _ _ _ (r .read-head .ensures) (passed (r .before)) (k .before .if1 .left) (sym (k .keys-are-texts .ensures) ∙ not-true _ (c .if2 .taken)); numbered = refl }
 
 add-count : tie.Need-add-count
 add-count c =
@@ -52,7 +54,7 @@ returns-4 c =
     let t = c .before .before in
     let k = t .before in
     let r = k .before .before .before in
-    none-gives _ _ _ (r .read-head .ensures) (passed (r .before)) (k .before .if1 .left) (sym (k .keys-are-texts .ensures) ∙ not-false _ (t .if2 .left)) (c .if3 .taken)
+    record { answer = none-gives _ _ _ (r .read-head .ensures) (passed (r .before)) (k .before .if1 .left) (sym (k .keys-are-texts .ensures) ∙ not-false _ (t .if2 .left)) (c .if3 .taken); numbered = refl }
 
 returns-5 : tie.Need-returns-5
 returns-5 c =
@@ -62,8 +64,12 @@ returns-5 c =
     let r = k .before .before .before in
     let h = headOf (r .read-head .result) in
     let a = r .before .before .before .before .before .before .args in
-    ap (λ v. denied 24 (countAndName (h .n + h .d) (placeOf callArea (v .payload)))) (c .pair-at .ensures ∙ ap (pairAt (a .cells .now)) (c .before .named-at .ensures))
-    ∙ none-extra _ _ _ (r .read-head .ensures) (passed (r .before)) (k .before .if1 .left) (sym (k .keys-are-texts .ensures) ∙ not-false _ (t .if2 .left)) (h .n + h .d) refl (e .if3 .left)
+    record {
+      answer =
+          ap (λ v. denied 24 (countAndName (h .n + h .d) (placeOf callArea (v .payload)))) (c .pair-at .ensures ∙ ap (pairAt (a .cells .now)) (c .before .named-at .ensures))
+          ∙ none-extra _ _ _ (r .read-head .ensures) (passed (r .before)) (k .before .if1 .left) (sym (k .keys-are-texts .ensures) ∙ not-false _ (t .if2 .left)) (h .n + h .d) refl (e .if3 .left);
+      numbered = refl;
+    }
 
 pub no-named-args-spec : {M : Type 1} → statement M
 no-named-args-spec = tie.close (tie.spec (λ c κs. search needs) (λ c. search needs) returns (λ c. search needs) (λ c κs. search needs) returns-2 keys-are-texts-requires returns-3 add-count returns-4 (λ c κs. search needs) (λ c κs. search needs) returns-5)

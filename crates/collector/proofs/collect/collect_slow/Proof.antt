@@ -3,7 +3,9 @@ use mathlib.Core.Path.{sym, ap, _∙_}
 use Rattle.rules.specs.CallRecord.{positionalsOf, namedOf}
 use Rattle.rules.specs.Binding.{askBinding}
 use Rattle.rules.specs.Collection.{callOf}
+use Rattle.rules.proofs.LawsListing.{and-left, and-right}
 use Rattle.builder.specs.Params.{parametersIn}
+use Rattle.answers.specs.Answer.{isRefusal, isNumbered}
 use Rattle.calls.specs.Head.{headOf}
 use Rattle.questions.specs.Judge.{judgedAnswer, refusing}
 use Rattle.questions.specs.Questions.{Judging, lentWith}
@@ -49,8 +51,10 @@ returns c =
     let a = start .args in
     let qs = parametersIn (a .spec .now) (listOf start .params) in
     let call = callOf (a .cells .now) (a .area .now) in
-    ends-refused qs (positionalsOf call) (namedOf call) (a .board .now) (askBinding qs call) (told .judged .given .0 .0)
-    (sym (ap refusing (told .judged .given .1)) ∙ judging asked .refusal) (sym (ap judgedAnswer (told .judged .given .1)) ∙ judging asked .answer)
+    let answer = told .judged .given .0 .0 in
+    let refuses = sym (ap refusing (told .judged .given .1)) ∙ judging asked .refusal in
+    ends-refused qs (positionalsOf call) (namedOf call) (a .board .now) (askBinding qs call) answer
+    (and-left (isRefusal answer) (isNumbered answer) refuses) (and-right (isRefusal answer) (isNumbered answer) refuses) (sym (ap judgedAnswer (told .judged .given .1)) ∙ judging asked .answer)
 
 returns-2 : tie.Need-returns-2
 returns-2 c =

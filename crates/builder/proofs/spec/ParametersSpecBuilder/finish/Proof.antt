@@ -16,7 +16,7 @@ returns c =
     record {
       answer = ap answerOf (none .answer) ∙ sym (ap (ask 8) (lt-leb (b .«positional_only») (b .positional) (c .before .if1 .taken)));
       fine = λ e. never-fine 8 (sym (none .answer) ∙ e);
-      refused = λ n e. none .none;
+      refused = λ n e. none .list;
     }
 
 returns-2 : tie.Need-returns-2

@@ -1,0 +1,2 @@
+-- What holds of an answer of collection.
+pub mod LawsTold
