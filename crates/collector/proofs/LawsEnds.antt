@@ -1,5 +1,5 @@
 -- Laws of how a call ends: a refusal that is handed on, the general path's board, the short path's, and a record's own refusals. Each gives
--- the outcome of `rules`, so where both paths apply they agree (`paths-agree`).
+-- the outcome of `rules`.
 -- Assumes nothing.
 use mathlib.Core.Path.{_≡_, refl, sym, ap, ap₂, subst, _∙_}
 use mathlib.Core.Bool.{true, false, _&&_, false≢true}
@@ -20,7 +20,7 @@ use Rattle.rules.specs.Board.{boardAfter, boardLeast-64, written}
 use Rattle.rules.specs.ParameterQuestions.{askParameters, listOf}
 use Rattle.rules.specs.CallQuestions.{namesDiffer, askCall, askBoard}
 use Rattle.rules.specs.Binding.{askBinding}
-use Rattle.rules.specs.Collection.{Outcome, accepted, outcomeOf, callOf, askRecords, collection}
+use Rattle.rules.specs.Collection.{accepted, outcomeOf, callOf, askRecords, collection}
 use Rattle.rules.proofs.LawsListing.{and-left, and-right}
 use Rattle.rules.proofs.LawsRecord.{length-writeEach}
 use Rattle.rules.proofs.LawsNumbers.{number-in, wider-in, parameters-in, call-in}
@@ -31,10 +31,10 @@ use Rattle.cells.specs.Listed.{listed}
 use Rattle.builder.specs.Params.{parametersIn}
 use Rattle.builder.specs.declared.spec.ParametersSpec.{ParametersSpec}
 use Rattle.cells.proofs.LawsListed.{length-listed, elements}
-use Rattle.answers.specs.Answer.{isNumbered, told, answerIn, isRefusal, countsOf}
+use Rattle.answers.specs.Answer.{isNumbered, answerIn, isRefusal, countsOf}
 use Rattle.calls.specs.Head.{namedFrom, entriesFrom}
 use Rattle.calls.specs.Keys.{askKeys}
-use Rattle.calls.proofs.LawsCall.{call-in-turn}
+use Rattle.calls.proofs.LawsCall.{call-in-turn, keys-form}
 use Rattle.findings.specs.Resolved.{namedAt, Resolved}
 use Rattle.findings.specs.EntriesDone.{entryAt}
 use Rattle.calls.specs.Values.{positionalAt, valuesIn}
@@ -44,15 +44,12 @@ use Rattle.collector.specs.Collect.{Ends, bindingOf, boundTo, isShort, S
 use Rattle.answers.specs.declared.answer.Counts.{Counts}
 use Rattle.answers.specs.declared.answer.Collected.{Collected}
 use Rattle.answers.specs.declared.answer.Collected.the-variants.{Accepted, Record, ArgsArrayIsNotIterable, RepeatedParameter, KwArgsIsNotDict, ArgsValueIsNotString, RepeatedArg, MissingPositionalOnly, Missing, MissingNamedOnly, ExtraPositionalArg, ExtraNamedArg}
+use Rattle.collector.proofs.LawsReady.{none-written}
 use Rattle.cells.proofs.LawsOut.{stored-first}
 use Rattle.cells.proofs.LawsWrite.{valueCells-two}
 use Rattle.findings.proofs.LawsRecord.{positionals-are}
 use Rattle.findings.proofs.LawsNames.{few-list, length-list}
 use Rattle.slots.proofs.LawsWritten.{board-placed, counts-placed}
-
--- where two answers are the same outcome over the same board, they tell the same and leave the same cells
-pub paths-agree : (o : Outcome) (before after after' : List ℕ) (r r' : Collected) → Ends o before after r → Ends o before after' r' → (told r after ≡ told r' after') × (after ≡ after')
-paths-agree o before after after' r r' e e' = (e .answer ∙ sym (e' .answer), e .board ∙ sym (e' .board))
 
 -- ---- a refusal
 
@@ -242,8 +239,10 @@ module _ (qs : List Parameter) (cells area board : List ℕ) where
 
   pub bound-refused : (n : ℕ) → askCall 64 cells area ≡ refuse n none → Ends (boundTo qs cells area board) board board (Record n)
   unfolding boundTo
-  bound-refused n e = ends-refused qs (positionalsOf c) (namedOf c) board (askCall 64 cells area then askBoard 64 64 board then askBinding qs c) (Record n) refl
-      (number-in 1 14 (askCall 64 cells area) n none (wider-in 9 13 1 14 (askCall 64 cells area) (omega arith) (omega arith) (call-in 64 cells area)) e) (sym (ap (λ a. a then askBoard 64 64 board then askBinding qs c) e))
+  bound-refused n e =
+      ends-refused qs (positionalsOf c) (namedOf c) board (askCall 64 cells area then askBoard 64 64 board then askBinding qs c) (Record n) refl
+      (number-in 1 14 (askCall 64 cells area) n none (wider-in 9 13 1 14 (askCall 64 cells area) (omega arith) (omega arith) (call-in 64 cells area)) e)
+      (sym (ap (λ a. a then askBoard 64 64 board then askBinding qs c) e))
 
   -- what 9 to 12 refuse, and 13 after them
   pub bound-keys : (n : ℕ) → askKeys 64 cells area ≡ refuse n none → Ends (boundTo qs cells area board) board board (Record n)
@@ -267,6 +266,11 @@ module _ (qs : List Parameter) (cells area board : List ℕ) where
     bound-binding long =
         ap (λ a. outcomeOf a qs (positionalsOf c) (namedOf c) board)
         (ap (λ a. a then askBoard 64 64 board then askBinding qs c) passed ∙ ap (λ a. a then askBinding qs c) (board-asked ∙ ap (ask 14) (le-leb 896 (length board) long)))
+
+-- a call that the short path is for has no names, so 13 is passed
+pub short-passed : (cells area : List ℕ) (h : Head) → h ≡ readHead cells → askKeys 64 cells area ≡ fine → (positional len : ℕ) → isShort positional len h ≡ true → askCall 64 cells area ≡ fine
+short-passed cells area h read passed positional len applies =
+    call-passed [] cells area [] passed (none-written cells area h read (keys-form 64 cells area passed) (short-unnamed positional len h applies))
 
 -- ---- a parameter record's, before all of these
 

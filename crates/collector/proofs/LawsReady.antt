@@ -1,5 +1,5 @@
 -- A call record that passes 9 to 11 is ready to be asked 15 to 24: its call's names, entries and values of P are what stands at the
--- places that the code computes. `h` is the head that was read.
+-- places that the code computes. Before that: arrays of zeros, in which no name is resolved. `h` is the head that was read.
 -- Assumes nothing.
 use mathlib.Core.Path.{_≡_, sym, ap, ap₂, _∙_}
 use mathlib.Core.Bool.{true, _&&_}
@@ -7,7 +7,7 @@ use mathlib.Core.List.{List, [], map}
 use Prim.Native.Nat.{ℕ, _+_, _*_, min, _≤_, _<_}
 use native.Mathlib.Omega.{arith}
 use lib.Dec.{leb, eqb}
-use lib.ListN.{length, drop, getD}
+use lib.ListN.{length, drop, getD, replicate, length-replicate, getD-replicate}
 use Rattle.rules.specs.Cells.{readEach}
 use Rattle.rules.specs.Text.{sizeOf, inside, isText, differ}
 use Rattle.rules.specs.Value.{Value, noValue, valueWidth, callText, wellFormedName, wellFormedKey}
@@ -19,6 +19,7 @@ use Rattle.rules.specs.Collection.{callOf}
 use Rattle.rules.proofs.LawsListing.{and-left, map-map}
 use Rattle.cells.specs.Record.{pairAt}
 use Rattle.cells.specs.Listed.{listed}
+use Rattle.builder.specs.Params.{parametersIn}
 use Rattle.builder.specs.declared.spec.ParametersSpec.{ParametersSpec}
 use Rattle.calls.specs.Head.{Few, namedFrom, entriesFrom}
 use Rattle.calls.specs.Runs.{pairsAt}
@@ -27,13 +28,23 @@ use Rattle.calls.proofs.LawsEach.{each-length, each-at, each-map}
 use Rattle.calls.proofs.LawsForm.{entry-key}
 use Rattle.calls.proofs.LawsCall.{names-by, lengths-few, positionals-within, named-within, formed-entries, form-lengths, form-kinds, form-parts}
 use Rattle.calls.proofs.LawsPlaces.{named-run, entries-run, positionals-length, star-passes, double-passes, positional-at}
-use Rattle.findings.specs.Resolved.{namedAt}
+use Rattle.findings.specs.Resolved.{namedAt, Resolved}
 use Rattle.findings.specs.Resolve.{Prepared, Pairs}
 use Rattle.findings.specs.EntriesDone.{writtenNames, entryAt, entriesIn}
 use Rattle.calls.specs.Values.{positionalAt}
 use Rattle.questions.specs.Questions.{CallReady}
 use Rattle.calls.proofs.LawsNamed.{name-inside}
 use Rattle.findings.proofs.LawsRecord.{pairs-listed, name-formed}
+use Rattle.findings.proofs.LawsNames.{few-list}
+use Rattle.findings.proofs.LawsResolved.{resolved-none}
+use Rattle.collector.specs.Collect.{InlineReady}
+
+-- ---- nothing is resolved yet
+
+pub none-resolved : (spec : List ℕ) (l : ParametersSpec) (cells area : List ℕ) → Prepared spec l → Resolved (parametersIn spec (l .params)) cells area [] (replicate 64 0) (replicate 128 0) 0
+none-resolved spec l cells area list =
+    resolved-none (parametersIn spec (l .params)) cells area (replicate 64 0) (replicate 128 0) (length-replicate {A = ℕ} 64 0) (length-replicate {A = ℕ} 128 0)
+    (λ k below. getD-replicate {A = ℕ} 64 k 0 0 (omega (arith, few-list spec l cells area list)))
 
 -- ---- runs of pairs, by index
 
@@ -66,9 +77,13 @@ module _ (cells area : List ℕ) (h : Head) (read : h ≡ readHead cells) (form 
   call-few = lengths-few cells h read 64 nine
 
   -- its written values are all there
-  pub values-within : 6 + 2 * h .p ≤ length cells
+  values-within : 6 + 2 * h .p ≤ length cells
   unfolding headWidth valueWidth
   values-within = positionals-within cells h read 64 nine
+
+  -- so the short path has what it needs, where the board passes 14
+  pub inline-ready : (board : List ℕ) → 896 ≤ length board → InlineReady cells h board
+  inline-ready board long = record { few = call-few; within = values-within; long = long }
 
   written : callIn area (readCall cells) .named ≡ writtenNames area cells h
   unfolding namedAt

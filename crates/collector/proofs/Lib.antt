@@ -1,3 +1,5 @@
 -- Laws of collection, by subject.
 pub mod LawsReady
 pub mod LawsEnds
+pub mod LawsPaths
+pub mod Computed

@@ -2,7 +2,7 @@
 use mathlib.Core.Path.{_≡_}
 use mathlib.Core.Bool.{Bool, true, _&&_}
 use mathlib.Core.List.{List, []}
-use Prim.Native.Nat.{ℕ, _≤_}
+use Prim.Native.Nat.{ℕ, _+_, _*_, _≤_}
 use lib.Dec.{eqb}
 use lib.ListN.{length}
 use Rattle.rules.specs.Answer.{fine, _then_}
@@ -21,7 +21,7 @@ use Rattle.findings.specs.Resolve.{Prepared}
 use Rattle.findings.specs.EntriesDone.{writtenNames}
 use Rattle.questions.specs.Questions.{CallReady}
 use Rattle.answers.specs.declared.answer.Collected.{Collected}
-use Rattle.calls.specs.Head.{headOf}
+use Rattle.calls.specs.Head.{headOf, Few}
 use Rattle.calls.specs.declared.head.Head.{Head as CodeHead}
 use Rattle.collector.specs.declared.collect.Begun.{Begun}
 use Rattle.collector.specs.declared.collect.Begun.the-variants.{Ended, Open}
@@ -62,6 +62,16 @@ pub record ShortCall (qs : List Parameter) (c : Call) (cells : List ℕ) (h : He
   pub no-star : c .star ≡ noStar
   pub no-double : c .double ≡ noDouble
 
+-- what the short path needs of a record and its head: few values, which are all there, and a board that passes 14
+pub record InlineReady (cells : List ℕ) (h : Head) (board : List ℕ) : Type 0 where
+  pub few : Few 64 h
+  pub within : 6 + 2 * h .p ≤ length cells
+  pub long : 896 ≤ length board
+
+-- what it promises: each call that it is for has ended as it does against its list
+abbrev pub InlineEnds : (cells : List ℕ) → Head → (before after : List ℕ) → Collected → Type 0
+InlineEnds cells h before after r = (qs : List Parameter) (c : Call) → ShortCall qs c cells h → Ends (bindingOf qs c before) before after r
+
 -- a prepared list, and a record that passes 9 to 12
 pub record OpenReady (spec : List ℕ) (l : ParametersSpec) (cells area : List ℕ) (h : Head) : Type 0 where
   pub list : Prepared spec l
@@ -73,3 +83,7 @@ pub record SlowReady (spec : List ℕ) (l : ParametersSpec) (cells area : List �
   pub call : CallReady spec l cells area h next (callOf cells area)
   pub names : Resolved (parametersIn spec (l .params)) cells area (writtenNames area cells h) sources rest before
   pub long : 896 ≤ length board
+
+-- and what the general path then promises: the call has ended as it does against the list
+abbrev pub SlowEnds : (spec : List ℕ) → ParametersSpec → (cells area before after : List ℕ) → Collected → Type 0
+SlowEnds spec l cells area before after r = Ends (bindingOf (parametersIn spec (l .params)) (callOf cells area) before) before after r

@@ -1,2 +1,3 @@
 -- What collection promises.
 pub mod Collect
+pub mod Paths

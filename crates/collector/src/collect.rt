@@ -22,17 +22,14 @@ use questions::questions::judge;
 use slots::board::write_board;
 ghost use mathlib.Core.Path.{_≡_};
 ghost use mathlib.Core.List.{List};
-ghost use Prim.Native.Nat.{ℕ, _+_, _*_, _≤_};
-ghost use lib.ListN.{length};
-ghost use Rattle.rules.specs.CallRecord.{Call};
+ghost use Prim.Native.Nat.{ℕ};
 ghost use Rattle.builder.specs.declared.spec.ParametersSpec.{ParametersSpec};
-ghost use Rattle.rules.specs.Parameters.{Parameter};
-ghost use Rattle.rules.specs.Collection.{callOf, collection};
+ghost use Rattle.rules.specs.Collection.{collection};
 ghost use Rattle.builder.specs.Params.{parametersIn};
-ghost use Rattle.calls.specs.Head.{headOf, Few};
+ghost use Rattle.calls.specs.Head.{headOf};
 ghost use Rattle.findings.specs.Resolve.{Prepared};
 ghost use Rattle.questions.specs.Questions.{lentWith};
-ghost use Rattle.collector.specs.Collect.{Ends, bindingOf, boundTo, isShort, Beginning, ShortCall, OpenReady, SlowReady};
+ghost use Rattle.collector.specs.Collect.{Ends, boundTo, isShort, Beginning, InlineReady, InlineEnds, OpenReady, SlowReady, SlowEnds};
 
 // A board holds 64 slots, a star remainder of 128 values and a named remainder of 128 pairs.
 pub const BOARD: usize = 896;
@@ -134,8 +131,8 @@ fn is_short(positional: usize, len: usize, h: Head) -> bool
 
 // The short path: each value is its parameter's slot.
 fn collect_inline(cells: &[u64], h: Head, board: &mut [u64]) -> Collected
-    requires { ⌜ Few 64 (headOf h) × (6 + 2 * h .p ≤ length (now cells)) × (896 ≤ length (now board)) ⌝ }
-    ensures { λ r. ⌜ ((qs : List Parameter) (c : Call) → ShortCall qs c (now (cells .entry)) (headOf h) → Ends (bindingOf qs c (now (board .entry))) (now (board .entry)) (now (board .exit)) r) ⌝ }
+    requires { ⌜ InlineReady (now cells) (headOf h) (now board) ⌝ }
+    ensures { λ r. ⌜ InlineEnds (now (cells .entry)) (headOf h) (now (board .entry)) (now (board .exit)) r ⌝ }
 {
     copy_written(cells, h, board);
     Collected::Accepted(Counts {
@@ -231,7 +228,7 @@ fn collect_slow<'a>(
     board: &mut [u64],
 ) -> Collected
     requires { ⌜ SlowReady (now spec) (lentWith (now codes) (now styles) (now names) len indices (now kinds) (now payloads)) (now cells) (now area) (headOf h) next (now sources) (now rest) before (now board) ⌝ }
-    ensures { λ r. ⌜ Ends (bindingOf (parametersIn (now (spec .entry)) (lentWith (now (codes .entry)) (now (styles .entry)) (now (names .entry)) len indices (now (kinds .entry)) (now (payloads .entry)) .params)) (callOf (now (cells .entry)) (now (area .entry))) (now (board .entry))) (now (board .entry)) (now (board .exit)) r ⌝ }
+    ensures { λ r. ⌜ SlowEnds (now (spec .entry)) (lentWith (now (codes .entry)) (now (styles .entry)) (now (names .entry)) len indices (now (kinds .entry)) (now (payloads .entry))) (now (cells .entry)) (now (area .entry)) (now (board .entry)) (now (board .exit)) r ⌝ }
 {
     let judged = judge(
         spec,

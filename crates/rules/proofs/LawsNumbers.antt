@@ -1,5 +1,5 @@
--- Which numbers the questions of a record refuse with: a parameter record's with 1 to 8, a call record's with 9 to 13. In this order: what holds of
--- a chain holds where it holds of each question; the two records; a refusal's number read off such a chain.
+-- Which numbers the questions of a record refuse with: a parameter record's with 1 to 8, a call record's with 9 to 13. Before them: a chain refuses
+-- with some numbers only where each of its questions does, and what that says of a refusal.
 -- Assumes nothing.
 use mathlib.Core.Path.{_≡_, refl, sym, ap, _∙_}
 use mathlib.Core.Bool.{Bool, true, false, _&&_}
@@ -52,10 +52,12 @@ wider-in least most least' most' (refuse n d) l m e =
 module _ (A : ℕ) (area : List ℕ) where
   step-in : (s : Style) (before : List Parameter) (t : Step) → refusesIn 1 8 (askStep A area s before t) ≡ true
   unfolding askStep
-  step-in s before t =
-      then-in 1 8 (ask 5 (mayStand s (act t))) (ask 6 (hasRoom A before (act t)) then ask 7 (nameIsNew area s before (act t) (t .name))) (ask-in 1 8 5 (mayStand s (act t)) refl)
-      (then-in 1 8 (ask 6 (hasRoom A before (act t))) (ask 7 (nameIsNew area s before (act t) (t .name))) (ask-in 1 8 6 (hasRoom A before (act t)) refl)
-      (ask-in 1 8 7 (nameIsNew area s before (act t) (t .name)) refl))
+  step-in s before t = go (mayStand s (act t)) (hasRoom A before (act t)) (nameIsNew area s before (act t) (t .name))
+    where
+      go : (a b c : Bool) → refusesIn 1 8 (ask 5 a then ask 6 b then ask 7 c) ≡ true
+      go false b c = refl
+      go true false c = refl
+      go true true c = ask-in 1 8 7 c refl
 
   steps-in : (s : Style) (before : List Parameter) (ts : List Step) → refusesIn 1 8 (askSteps A area s before ts) ≡ true
   steps-in s before [] = refl

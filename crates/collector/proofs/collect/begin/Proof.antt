@@ -2,7 +2,7 @@
 -- says, and otherwise the call has passed 9 to 12. Assumes nothing.
 use mathlib.Core.Path.{_≡_, refl, sym, ap, subst, _∙_}
 use mathlib.Core.Bool.{true}
-use mathlib.Core.List.{List, []}
+use mathlib.Core.List.{List}
 use Prim.Native.Nat.{ℕ, _+_, min}
 use native.Mathlib.Omega.{arith}
 use Rattle.rules.specs.Answer.{fine}
@@ -18,8 +18,8 @@ use Rattle.calls.proofs.LawsCall.{keys-form}
 use Rattle.answers.specs.declared.answer.Collected.{Collected}
 use Rattle.collector.specs.Collect.{Ends, boundTo, isShort, Beginning}
 use Rattle.collector.specs.declared.collect.Begun.the-variants.{Ended, Open}
-use Rattle.collector.proofs.LawsReady.{call-ready, call-few, values-within, none-written}
-use Rattle.collector.proofs.LawsEnds.{short-call, short-unnamed, bound-keys, call-passed, bound-short-board, bound-binding}
+use Rattle.collector.proofs.LawsReady.{call-ready, inline-ready}
+use Rattle.collector.proofs.LawsEnds.{short-call, short-passed, bound-keys, bound-short-board, bound-binding}
 use borrow.Author.Needs.{needs}
 use Rattle.collector.proofs.collect.begin.Statement.{statement}
 use Rattle.collector.proofs.collect.begin.Tie as tie
@@ -62,9 +62,8 @@ all-passed : (c : tie.Then1) → let a = startOf (c .before .before) .args in as
 all-passed c =
     let read = c .before .before in
     let a = startOf read .args in
-    let h = headOf (read .read-head .result) in
-    call-passed [] (a .cells .now) (a .area .now) (a .board .now) (passed (read .before))
-    (none-written (a .cells .now) (a .area .now) h (read .read-head .ensures) (form (read .before)) (short-unnamed (a .positional) (a .len) h (sym (c .before .is-short .ensures) ∙ c .if1 .taken)))
+    short-passed (a .cells .now) (a .area .now) (headOf (read .read-head .result)) (read .read-head .ensures) (passed (read .before)) (a .positional) (a .len)
+    (sym (c .before .is-short .ensures) ∙ c .if1 .taken)
 
 returns-2 : tie.Need-returns-2
 returns-2 c spec l list positional len =
@@ -76,11 +75,7 @@ collect-inline-requires : tie.Need-collect-inline-requires
 collect-inline-requires c κs =
     let read = c .before .before .before .before in
     let a = startOf read .args in
-    let h = headOf (read .read-head .result) in (
-      call-few (a .cells .now) (a .area .now) h (read .read-head .ensures) (form (read .before)),
-      values-within (a .cells .now) (a .area .now) h (read .read-head .ensures) (form (read .before)),
-      c .before .if2 .left,
-    )
+    inline-ready (a .cells .now) (a .area .now) (headOf (read .read-head .result)) (read .read-head .ensures) (form (read .before)) (a .board .now) (c .before .if2 .left)
 
 returns-3 : tie.Need-returns-3
 returns-3 c spec l list positional len =

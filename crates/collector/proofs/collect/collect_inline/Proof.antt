@@ -11,7 +11,7 @@ returns c =
     let start = written .before .before .before .before in
     let a = start .args in
     λ qs call short.
-    short-ends qs call (a .cells .now) (headOf (a .h)) short (start .pre .0 .few-p) (a .board .now) _ (start .pre .2) (written .copy-written .ensures)
+    short-ends qs call (a .cells .now) (headOf (a .h)) short (start .pre .few .few-p) (a .board .now) _ (start .pre .long) (written .copy-written .ensures)
 
 pub collect-inline-spec : {M : Type 1} → statement M
 collect-inline-spec = tie.close (tie.spec (λ c κs. search needs) (λ c. search needs) returns)

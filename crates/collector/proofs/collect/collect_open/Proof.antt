@@ -2,9 +2,8 @@
 -- general path. Assumes nothing.
 use mathlib.Core.Path.{_≡_, sym, subst, _∙_}
 use mathlib.Core.List.{[]}
-use Prim.Native.Nat.{ℕ}
 use native.Mathlib.Omega.{arith}
-use lib.ListN.{replicate, length-replicate, getD-replicate}
+use lib.ListN.{replicate}
 use Rattle.rules.specs.Answer.{fine}
 use Rattle.rules.specs.CallQuestions.{askForm, askCall}
 use Rattle.rules.specs.Collection.{callOf}
@@ -14,11 +13,9 @@ use Rattle.calls.specs.Head.{headOf, Few}
 use Rattle.calls.proofs.LawsCall.{keys-form}
 use Rattle.findings.specs.Resolve.{pairsFrom, Naming, Others, NamesEnd}
 use Rattle.findings.specs.EntriesDone.{writtenNames}
-use Rattle.findings.proofs.LawsNames.{few-list}
-use Rattle.findings.proofs.LawsResolved.{resolved-none}
 use Rattle.questions.specs.Questions.{CallReady, lentWith}
 use Rattle.collector.specs.Collect.{Ends}
-use Rattle.collector.proofs.LawsReady.{call-few, call-ready, pairs, names-asked}
+use Rattle.collector.proofs.LawsReady.{none-resolved, call-few, call-ready, pairs, names-asked}
 use Rattle.collector.proofs.LawsEnds.{bound-names, call-passed, bound-short-board, bound-binding}
 use borrow.Author.Needs.{needs}
 use Rattle.collector.proofs.collect.collect_open.Statement.{statement}
@@ -63,8 +60,7 @@ naming c =
     record {
       list = start .pre .list;
       pairs = rw (c .named-from .ensures) (pairs (a .cells .now) (a .area .now) (headOf (a .h)) (start .pre .read) (form start));
-      empty = resolved-none (parametersIn (a .spec .now) (listOf start .params)) (a .cells .now) (a .area .now) (replicate 64 0) (replicate 128 0) (length-replicate {A = ℕ} 64 0) (length-replicate {A = ℕ} 128 0)
-          (λ k below. getD-replicate {A = ℕ} 64 k 0 0 (omega (arith, few-list (a .spec .now) (listOf start) (a .cells .now) (a .area .now) (start .pre .list))));
+      empty = none-resolved (a .spec .now) (listOf start) (a .cells .now) (a .area .now) (start .pre .list);
     }
 
 resolve-names-requires : tie.Need-resolve-names-requires
