@@ -1,12 +1,12 @@
--- 01's twelve examples, its example of `bind`, and cuts, printed lists and accessors at work, by computation: every definition that they cite is
--- unfolded and each side computed.
+-- 01's twelve examples, its example of `bind`, the limits of a sheet, and cuts, printed lists and accessors at work, by computation: every
+-- definition that they cite is unfolded and each side computed.
 -- Assumes nothing.
 use mathlib.Core.Path.{refl}
 use lib.Dec.{lit≤}
 use Rattle.rules.specs.Cells.{over}
 use Rattle.rules.specs.Text.{payloadOf}
 use Rattle.rules.specs.Examples.{Twelve, collected, boardBefore, listW, listK, noParameters, stepsW, specBytes, callBytes}
-use Rattle.rules.specs.SheetExamples.{SheetExamples, exampleInput, exampleOutput, bindsTo}
+use Rattle.rules.specs.SheetExamples.{SheetExamples, exampleInput, exampleOutput, bindsTo, SheetLimits, judged, listBegun, callBegun, times, withSteps, withRows, listRow, dictRow, valueRows, namedRows, itemRows, entryRows, textRow}
 use Rattle.rules.specs.PrintedExamples.{PrintedExamples, asked, shown, starBytes, steps, allSteps}
 use Rattle.rules.specs.CutExamples.{CutExamples, ends, fills, listM, callBytes as cutBytes}
 use Rattle.rules.specs.AccessExamples.{AccessExamples, mapped, mappedCells, placed, placedCells, counted, unnamed, chosen, chosenCells}
@@ -53,6 +53,28 @@ cut-examples =
 pub sheet-examples : SheetExamples
 unfolding bindsTo exampleInput exampleOutput
 sheet-examples = record { example = refl }
+
+pub sheet-limits : SheetLimits
+unfolding judged listBegun callBegun times withSteps withRows listRow dictRow valueRows namedRows itemRows entryRows textRow
+sheet-limits =
+    record {
+      steps = refl;
+      steps-past = refl;
+      values-most = refl;
+      values-past = refl;
+      names-most = refl;
+      names-past = refl;
+      items-most = refl;
+      items-past = refl;
+      entries-most = refl;
+      entries-past = refl;
+      list-twice = refl;
+      dictionary-twice = refl;
+      item-first = refl;
+      entry-first = refl;
+      cell-most = refl;
+      cell-past = refl;
+    }
 
 pub printed-examples : PrintedExamples
 unfolding asked shown listW listK stepsW specBytes starBytes steps allSteps payloadOf

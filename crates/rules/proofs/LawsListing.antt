@@ -4,7 +4,7 @@
 use mathlib.Core.Path.{_≡_, refl, sym, ap, ap₂}
 use mathlib.Core.Bool.{Bool, true, false, cond, not, _&&_, _||_, false≢true, true≢false}
 use mathlib.Core.List.{List, [], _∷_, _++_, map}
-use Prim.Native.Nat.{ℕ, zero, suc, _+_}
+use Prim.Native.Nat.{ℕ, zero, suc, _+_, _≤_}
 use native.Mathlib.Omega.{arith}
 use lib.ListN.{length, take, drop}
 use Rattle.rules.specs.Listing.{all, any, tally, keep, anyFrom}
@@ -91,6 +91,17 @@ module _ {X : Type 0} (f : X → Bool) where
       go true e = omega arith
       go false e = e
 
+  -- no more pass a test than one that it implies
+  pub tally-fewer : (g : X → Bool) → ((x : X) → f x ≡ true → g x ≡ true) → (xs : List X) → tally f xs ≤ tally g xs
+  tally-fewer g h [] = omega arith
+  tally-fewer g h (x ∷ xs) = go (f x) (g x) (h x) (tally-fewer g h xs)
+    where
+      go : (a b : Bool) → (a ≡ true → b ≡ true) → tally f xs ≤ tally g xs → cond a (suc (tally f xs)) (tally f xs) ≤ cond b (suc (tally g xs)) (tally g xs)
+      go true true i n = omega arith
+      go true false i n = absurd (false≢true (i refl))
+      go false true i n = omega arith
+      go false false i n = n
+
   -- those that pass and those that are kept for not passing are all there are
   pub tally-keep : (xs : List X) → length xs ≡ tally f xs + length (keep (λ x. not (f x)) xs)
   tally-keep [] = refl
@@ -100,6 +111,18 @@ module _ {X : Type 0} (f : X → Bool) where
           → suc (length xs) ≡ cond b (suc (tally f xs)) (tally f xs) + length (cond (not b) (x ∷ keep (λ y. not (f y)) xs) (keep (λ y. not (f y)) xs))
       go true e = omega arith
       go false e = omega arith
+
+  pub all-behind : (xs ys : List X) → all f (xs ++ ys) ≡ true → all f ys ≡ true
+  all-behind [] ys e = e
+  all-behind (x ∷ xs) ys e = all-behind xs ys (and-right (f x) (all f (xs ++ ys)) e)
+
+  pub all-keep : (g : X → Bool) (xs : List X) → all f xs ≡ true → all f (keep g xs) ≡ true
+  all-keep g [] e = refl
+  all-keep g (x ∷ xs) e = go (g x) (all-keep g xs (and-right (f x) (all f xs) e))
+    where
+      go : (b : Bool) → all f (keep g xs) ≡ true → all f (cond b (x ∷ keep g xs) (keep g xs)) ≡ true
+      go true r = and-both (f x) (all f (keep g xs)) (and-left (f x) (all f xs) e) r
+      go false r = r
 
   -- one passes where another implies it
   pub all-imp : (g : X → Bool) → ((x : X) → f x ≡ true → g x ≡ true) → (xs : List X) → all f xs ≡ true → all g xs ≡ true

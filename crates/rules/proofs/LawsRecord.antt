@@ -10,7 +10,7 @@ use lib.ListN.{length, drop, length-append}
 use lib.Seq.{drop-at}
 use Rattle.rules.specs.Cells.{readEach, writeEach}
 use Rattle.rules.specs.Value.{Value, valueWidth, valueCells, readValue}
-use Rattle.rules.specs.ParameterRecord.{Step, ParameterRecord, stepWidth, stepCells, readStep, stepCount, readParameters, encodeParameters}
+use Rattle.rules.specs.ParameterRecord.{Step, ParameterRecord, stepWidth, stepCells, readStep, parameterLength, stepCount, readParameters, encodeParameters}
 use Rattle.rules.specs.CallRecord.{Pair, CallRecord, Head, pairWidth, pairCells, readPair, headWidth, readHead, callLength, readCall, encodeCall}
 
 -- ---- runs of equal things
@@ -112,6 +112,14 @@ readCall-encodeCall r =
 count-steps : (ts : List Step) → (suc (length (writeEach stepCells ts)) - 1) / stepWidth ≡ length ts
 unfolding stepWidth
 count-steps ts = rw (length-writeEach 4 readStep stepCells stepCells-wide ts) (omega arith)
+
+pub stepCount-encodeParameters : (r : ParameterRecord) → stepCount (encodeParameters r) ≡ length (r .steps)
+unfolding stepCount encodeParameters
+stepCount-encodeParameters r = count-steps (r .steps)
+
+pub length-encodeParameters : (r : ParameterRecord) → length (encodeParameters r) ≡ parameterLength (length (r .steps))
+unfolding encodeParameters parameterLength stepWidth
+length-encodeParameters r = omega (arith, length-writeEach 4 readStep stepCells stepCells-wide (r .steps))
 
 pub readParameters-encodeParameters : (r : ParameterRecord) → readParameters (encodeParameters r) ≡ r
 unfolding readParameters encodeParameters stepCount

@@ -1,6 +1,7 @@
 -- Values in the cells of a sheet, both ways (01, sheets): each form is read back as what it was printed from, so a value that is well formed
--- is read back out of its cell as the same kind and payload, or as the same bytes where it is a text (`round-trip`). Then how long a printed
--- value is (`print-short`). Digits are in LawsDigits. Assumes nothing.
+-- is read back out of its cell as the same kind and payload, or as the same bytes where it is a text (`round-trip`). That is said of the cell
+-- by itself: a text that holds a comma or a line feed parts its line. Then how long a printed value is (`print-short`). Digits are in LawsDigits.
+-- Assumes nothing.
 use mathlib.Core.Path.{_≡_, refl, sym, ap, _∙_, subst}
 use mathlib.Core.Bool.{Bool, true, false, cond, not, or-false, _&&_, _||_}
 use mathlib.Core.List.{List, [], _∷_}
@@ -13,7 +14,7 @@ use borrow.Author.Tests.{ltb-true, ltb-false, leb-true, le-leb, lt-ltb, eqb-true
 use Rattle.rules.specs.Listing.{all}
 use Rattle.rules.specs.Text.{sizeOf, bytesAt, isText, inside}
 use Rattle.rules.specs.Value.{Value, specText, callText, wellFormed, wellFormedDefault, wellFormedArgument}
-use Rattle.rules.specs.SheetValue.{CellValue, written, quoted, glyph, isDigit, isHexDigit, lastDigits, isShortest, decimal, readDecimal, readWhole, printWhole, readBits, readForm, readCell, printValue}
+use Rattle.rules.specs.SheetValue.{CellValue, written, quoted, isDigit, isHexDigit, lastDigits, isShortest, decimal, readDecimal, readWhole, printWhole, readBits, readForm, readCell, printValue}
 use Rattle.rules.proofs.LawsListing.{and-left, and-right}
 use Rattle.rules.proofs.LawsDigits.{glyph-hex, digits-length, digits-all, digits-number, decimal-length, decimal-shortest, decimal-number}
 

@@ -16,5 +16,7 @@ pub mod LawsFound
 pub mod LawsShort
 pub mod LawsReader
 pub mod LawsSheetValue
+pub mod LawsSheetRows
+pub mod LawsSheetForm
 pub mod LawsSheetOutput
 pub mod Demand3

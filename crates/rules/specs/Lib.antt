@@ -30,5 +30,5 @@ pub mod SheetRows
 pub mod SheetInput
 pub mod SheetRecords
 pub mod SheetOutput
-pub mod SheetPrintable
+pub mod SheetForm
 pub mod SheetExamples

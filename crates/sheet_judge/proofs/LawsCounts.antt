@@ -1,21 +1,22 @@
 -- Rows judged by counts (01, sheets): what a row asks of the rows before it can be asked of their counts, in a parameter sheet of how many
--- they are (`parameter-fits`), in a call sheet of the counts of the parts and the kinds of the stars (`counting-fits`); and the counts of the
--- rows with one more (`counting-more`), from those of none (`counting-none`).
+-- they are (`parameter-fits`), in a call sheet of the counts of the parts and the kinds of the stars (`counts-fit`); and the counts of the
+-- rows with one more (`counts-more`).
 -- Assumes nothing.
-use mathlib.Core.Path.{_≡_, refl, sym, ap, _∙_}
+use mathlib.Core.Path.{_≡_, refl, ap, _∙_}
 use mathlib.Core.Bool.{Bool, true, false, cond, _&&_, _||_, false≢true}
 use mathlib.Core.List.{List, [], _∷_, _++_}
-use Prim.Native.Nat.{ℕ, zero, suc, _+_, _≤_}
+use Prim.Native.Nat.{ℕ, zero, suc, _+_}
 use native.Mathlib.Omega.{arith}
 use lib.Dec.{ltb, eqb}
 use lib.ListN.{length}
 use borrow.Author.Tests.{ltb-true, lt-ltb, le-ltb, ne-eqb}
-use Rattle.rules.specs.Listing.{any, tally}
+use Rattle.rules.specs.Listing.{tally}
 use Rattle.rules.specs.SheetLines.{Row}
 use Rattle.rules.specs.SheetRows.{isEmpty, isValue, stepRight, parameterRowRight, CallPart, positional, named, star, item, double, entry, unknownPart, partNumber, callPart, isPart, isList, isDict, isOther, fewer, listBefore, dictBefore, callRowRightAs, callRowRight}
 use Rattle.rules.specs.SheetRecords.{kindBy}
 use Rattle.rules.proofs.LawsListing.{and-right, same-test, tally-append}
-use Rattle.sheet_judge.specs.Counts.{parameterFits, countsOf, fitsAs, fits, moreAs, more, Few, Counting}
+use Rattle.rules.proofs.LawsSheetRows.{one-before, CallRows}
+use Rattle.sheet_judge.specs.Counts.{parameterFits, countsOf, fitsAs, fits, moreAs, more, Few}
 use Rattle.sheet_judge.specs.declared.counts.Counts.{Counts}
 
 -- ---- the parameter sheet
@@ -57,55 +58,25 @@ none-kind part isOne (r ∷ rs) = go (isPart part r) (isOne (r .value)) (none-ki
     go true false e = le-ltb (suc (tally (isPart part) rs)) 1 (omega arith)
     go false o e = e
 
--- where there is none, none is a list
-none-before : (part : CallPart) (isOne : List ℕ → Bool) (rows : List Row) → tally (isPart part) rows ≤ 0
-    → any (λ r. isPart part r && isOne (r .value)) rows ≡ false
-none-before part isOne [] h = refl
-none-before part isOne (r ∷ rs) h = go (isPart part r) h (none-before part isOne rs)
-  where
-    go : (b : Bool) → cond b (suc (tally (isPart part) rs)) (tally (isPart part) rs) ≤ 0
-        → (tally (isPart part) rs ≤ 0 → any (λ q. isPart part q && isOne (q .value)) rs ≡ false)
-        → (b && isOne (r .value) || any (λ q. isPart part q && isOne (q .value)) rs) ≡ false
-    go true l ih = absurd (omega arith)
-    go false l ih = ih l
-
--- where there is at most one, it is a list exactly where its kind is 1
-one-before : (part : CallPart) (isOne : List ℕ → Bool) (rows : List Row) → tally (isPart part) rows ≤ 1
-    → any (λ r. isPart part r && isOne (r .value)) rows ≡ eqb (kindBy part isOne rows) 1
-one-before part isOne [] h = refl
-one-before part isOne (r ∷ rs) h = go (isPart part r) (isOne (r .value)) h (one-before part isOne rs)
-  where
-    go : (b o : Bool) → cond b (suc (tally (isPart part) rs)) (tally (isPart part) rs) ≤ 1
-        → (tally (isPart part) rs ≤ 1 → any (λ q. isPart part q && isOne (q .value)) rs ≡ eqb (kindBy part isOne rs) 1)
-        → (b && o || any (λ q. isPart part q && isOne (q .value)) rs) ≡ eqb (cond b (cond o 1 2) (kindBy part isOne rs)) 1
-    go true true l ih = refl
-    go true false l ih = none-before part isOne rs (omega arith)
-    go false o l ih = ih l
-
 -- ---- a row behind others
 
-pub counting-none : (B : ℕ) → Counting B [] (countsOf [])
-unfolding countsOf
-counting-none B =
-    record {
-      counts = refl;
-      few = record { few-p = omega arith; few-n = omega arith; few-s = omega arith; few-d = omega arith };
-      one-star = omega arith;
-      one-double = omega arith;
-    }
+module _ (B : ℕ) (rows : List Row) (h : CallRows B rows) where
+  pub counts-few : Few B (countsOf rows)
+  unfolding countsOf
+  counts-few = record { few-p = h .few positional; few-n = h .few named; few-s = h .few item; few-d = h .few entry }
 
-pub counting-fits : {B : ℕ} {rows : List Row} {k : Counts} → Counting B rows k → (r : Row) → callRowRight B rows r ≡ fits B k r
-unfolding callRowRight fits countsOf fewer listBefore dictBefore
-counting-fits {B} {rows} {k} t r = go (callPart (r .part)) ∙ ap (λ j. fitsAs B j (callPart (r .part)) (r .name) (r .value)) (sym (t .counts))
-  where
-    go : (q : CallPart) → callRowRightAs B rows q r ≡ fitsAs B (countsOf rows) q (r .name) (r .value)
-    go positional = refl
-    go named = refl
-    go star = ap (λ b. isEmpty (r .name) && (isList (r .value) || isOther (r .value)) && b) (none-kind star isList rows)
-    go item = ap (λ b. isEmpty (r .name) && isValue (r .value) && b && ltb (tally (isPart item) rows) B) (one-before star isList rows (t .one-star))
-    go double = ap (λ b. isEmpty (r .name) && (isDict (r .value) || isOther (r .value)) && b) (none-kind double isDict rows)
-    go entry = ap (λ b. isValue (r .name) && isValue (r .value) && b && ltb (tally (isPart entry) rows) B) (one-before double isDict rows (t .one-double))
-    go unknownPart = refl
+  pub counts-fit : (r : Row) → callRowRight B rows r ≡ fits B (countsOf rows) r
+  unfolding callRowRight fits countsOf fewer listBefore dictBefore
+  counts-fit r = go (callPart (r .part))
+    where
+      go : (q : CallPart) → callRowRightAs B rows q r ≡ fitsAs B (countsOf rows) q (r .name) (r .value)
+      go positional = refl
+      go named = refl
+      go star = ap (λ b. isEmpty (r .name) && (isList (r .value) || isOther (r .value)) && b) (none-kind star isList rows)
+      go item = ap (λ b. isEmpty (r .name) && isValue (r .value) && b && ltb (tally (isPart item) rows) B) (one-before star isList rows (h .few star))
+      go double = ap (λ b. isEmpty (r .name) && (isDict (r .value) || isOther (r .value)) && b) (none-kind double isDict rows)
+      go entry = ap (λ b. isValue (r .name) && isValue (r .value) && b && ltb (tally (isPart entry) rows) B) (one-before double isDict rows (h .few double))
+      go unknownPart = refl
 
 -- ---- one row more
 
@@ -139,13 +110,6 @@ module _ (rows : List Row) (r : Row) (q : CallPart) (e : callPart (r .part) ≡ 
         go false o zero first = refl
         go false o (suc n) first = rw (ne-eqb (suc n) 0 (λ p. omega arith))
 
-    once : tally (isPart part) rows ≤ 1 → tally (isPart part) (rows ++ (r ∷ [])) ≤ 1
-    once l = rw tally-with (go (eqb (partNumber q) (partNumber part)) new)
-      where
-        go : (b : Bool) → (b ≡ true → eqb (kindBy part isOne rows) 0 ≡ true) → cond b (tally (isPart part) rows + 1) (tally (isPart part) rows) ≤ 1
-        go true first = omega (arith, ltb-true (tally (isPart part) rows) 1 (none-kind part isOne rows ∙ first refl))
-        go false first = l
-
 -- what a right row says: a star was not there before
 new-star : (B : ℕ) (k : Counts) (r : Row) (q : CallPart) → fitsAs B k q (r .name) (r .value) ≡ true → eqb (partNumber q) (partNumber star) ≡ true
     → eqb (k .«star_kind») 0 ≡ true
@@ -166,24 +130,6 @@ new-double B k r item h p = absurd (false≢true p)
 new-double B k r double h p = and-right (isEmpty (r .name) && (isDict (r .value) || isOther (r .value))) (eqb (k .«double_kind») 0) h
 new-double B k r entry h p = absurd (false≢true p)
 new-double B k r unknownPart h p = absurd (false≢true p)
-
--- and that there was room for it
-few-more : (B : ℕ) (r : Row) (k : Counts) (q : CallPart) → Few B k → fitsAs B k q (r .name) (r .value) ≡ true → Few B (moreAs k q (r .value))
-few-more B r k positional f h =
-    let l = ltb-true (k .p) B (and-right (isEmpty (r .name) && isValue (r .value)) (ltb (k .p) B) h) in
-    record { few-p = omega arith; few-n = f .few-n; few-s = f .few-s; few-d = f .few-d }
-few-more B r k named f h =
-    let l = ltb-true (k .n) B (and-right (isValue (r .value)) (ltb (k .n) B) h) in
-    record { few-p = f .few-p; few-n = omega arith; few-s = f .few-s; few-d = f .few-d }
-few-more B r k star f h = record { few-p = f .few-p; few-n = f .few-n; few-s = f .few-s; few-d = f .few-d }
-few-more B r k item f h =
-    let l = ltb-true (k .s) B (and-right (isEmpty (r .name) && isValue (r .value) && eqb (k .«star_kind») 1) (ltb (k .s) B) h) in
-    record { few-p = f .few-p; few-n = f .few-n; few-s = omega arith; few-d = f .few-d }
-few-more B r k double f h = record { few-p = f .few-p; few-n = f .few-n; few-s = f .few-s; few-d = f .few-d }
-few-more B r k entry f h =
-    let l = ltb-true (k .d) B (and-right (isValue (r .name) && isValue (r .value) && eqb (k .«double_kind») 1) (ltb (k .d) B) h) in
-    record { few-p = f .few-p; few-n = f .few-n; few-s = f .few-s; few-d = omega arith }
-few-more B r k unknownPart f h = absurd (false≢true h)
 
 -- the counts as the row's part makes them
 countsWith : CallPart → List Row → Row → Counts
@@ -217,9 +163,9 @@ module _ (B : ℕ) (rows : List Row) (r : Row) (q : CallPart) (e : callPart (r .
   unfolding countsOf
   double-new = new-double B (countsOf rows) r q h
 
-  counts-more : moreAs (countsOf rows) q (r .value) ≡ countsOf (rows ++ (r ∷ []))
+  counts-as : moreAs (countsOf rows) q (r .value) ≡ countsOf (rows ++ (r ∷ []))
   unfolding countsOf countsWith
-  counts-more =
+  counts-as =
       more-with q rows r
       ∙ rw (
         tally-with rows r q e positional,
@@ -230,15 +176,6 @@ module _ (B : ℕ) (rows : List Row) (r : Row) (q : CallPart) (e : callPart (r .
         tally-with rows r q e entry,
       )
 
-pub counting-more : {B : ℕ} {rows : List Row} {k : Counts} → Counting B rows k → (r : Row) → fits B k r ≡ true
-    → Counting B (rows ++ (r ∷ [])) (more k r)
+pub counts-more : (B : ℕ) (rows : List Row) (r : Row) → fits B (countsOf rows) r ≡ true → more (countsOf rows) r ≡ countsOf (rows ++ (r ∷ []))
 unfolding fits more
-counting-more {B} {rows} {k} t r h =
-    let q = callPart (r .part) in
-    let g : fitsAs B (countsOf rows) q (r .name) (r .value) ≡ true = ap (λ j. fitsAs B j q (r .name) (r .value)) (sym (t .counts)) ∙ h in
-    record {
-      counts = ap (λ j. moreAs j q (r .value)) (t .counts) ∙ counts-more B rows r q refl g;
-      few = few-more B r k q (t .few) h;
-      one-star = once rows r q refl star isList (star-new B rows r q refl g) (t .one-star);
-      one-double = once rows r q refl double isDict (double-new B rows r q refl g) (t .one-double);
-    }
+counts-more B rows r h = counts-as B rows r (callPart (r .part)) refl h

@@ -31,6 +31,7 @@ use Rattle.sheet_judge.specs.declared.call.Call.the-variants as call
 use Rattle.sheet_judge.specs.declared.call.Values.{Values}
 use Rattle.sheet_judge.specs.declared.call.Values.the-variants as values
 use Rattle.sheet_judge.specs.declared.Judged.the-variants.{Right, Bad}
+use Rattle.sheet_judge.proofs.LawsValues.{judged-few}
 use Rattle.sheet_judge.proofs.LawsRows.{rows-three}
 use Rattle.sheet_judge.proofs.LawsSheets.{parameters-none, parameters-header, parameters-steps, call-none, call-header, call-values, values-right, input-long, input-parameters, lines-parameters, lines-call, input-call}
 
@@ -175,8 +176,9 @@ module _ {input : List ℕ} (short : length input ≤ inputMost) {p : ParameterP
           call-three =
               rows-three (callRowRight 64) (columnsOf (k .columns)) (p .rows + 3 + 1) [] (rules.linesIn (drop (k .from) input)) (b .values .judged);
           call-are = second-rows;
-          counts-are = b .values .counting .counts ∙ rw second-rows;
-          counts-few = b .values .counting .few;
+          counts-are = b .values .counts ∙ rw second-rows;
+          counts-few =
+              judged-few (columnsOf (k .columns)) (p .rows + 3 + 1) (rules.linesIn (drop (k .from) input)) (b .values .judged) (b .values .counts);
         }
 
   pub judging-right : {r : Call} (behind : CallRead input (p .next) (p .rows + 3) r) {k : CallPlaces} → r ≡ call.Right k → Judging input (Right (placesOf p k))

@@ -1,7 +1,7 @@
 -- Lines of a sheet judged one by one (01, sheets), as a loop over them asks: lines that are right and then more (`rows-passed`), one more
 -- that is right (`rows-more`) or the first that is not (`rows-bad`); and what right lines are: three cells each, and so none is blank.
 -- Assumes nothing.
-use mathlib.Core.Path.{_≡_, refl, sym, _∙_}
+use mathlib.Core.Path.{_≡_, refl, _∙_}
 use mathlib.Core.Bool.{Bool, true, false, _&&_, false≢true}
 use mathlib.Core.List.{List, [], _∷_, _++_, map, append-nil}
 use Prim.Native.Nat.{ℕ, suc, _+_}
@@ -11,25 +11,9 @@ use lib.Seq.{append-snoc}
 use Rattle.rules.specs.Listing.{all}
 use Rattle.rules.specs.SheetLines.{cellsIn, threeCells, Columns, Row, rowIn}
 use Rattle.rules.specs.SheetRows.{isEmpty}
-use Rattle.rules.specs.SheetInput.{Verdict, right, bad, _else_, unless, judgeRows, beforeBlank, behindBlank}
+use Rattle.rules.specs.SheetInput.{right, bad, unless, judgeRows, beforeBlank, behindBlank}
 use Rattle.rules.proofs.LawsListing.{and-left, and-right, and-both}
-
--- ---- verdicts
-
-pub right-bad : {X : Type 0} {n line : ℕ} → right ≡ bad n line → X
-right-bad e = let z : _≡_ {A = ℕ} 0 1 = cc in absurd (omega arith)
-
-pub else-left : (v w : Verdict) → (v else w) ≡ right → v ≡ right
-else-left right w e = refl
-else-left (bad n line) w e = e
-
-pub else-right : (v w : Verdict) → (v else w) ≡ right → w ≡ right
-else-right right w e = e
-else-right (bad n line) w e = right-bad (sym e)
-
-pub unless-true : (b : Bool) (line : ℕ) → unless b line ≡ right → b ≡ true
-unless-true true line e = refl
-unless-true false line e = right-bad (sym e)
+use Rattle.rules.proofs.LawsSheetRows.{else-left, else-right, unless-true}
 
 -- ---- right lines, and more
 

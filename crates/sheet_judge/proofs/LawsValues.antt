@@ -8,17 +8,18 @@ use native.Mathlib.Omega.{arith}
 use lib.ListN.{length, drop, length-drop}
 use Rattle.rules.specs.SheetLines.{linesIn, unended, cellsIn, threeCells, Columns, rowIn}
 use Rattle.rules.specs.SheetRows.{isEmpty, CallPart, callPart, callRowRight}
-use Rattle.rules.specs.SheetInput.{bad}
+use Rattle.rules.specs.SheetInput.{right, bad, judgeRows}
 use Rattle.rules.proofs.LawsListing.{and-right, map-append}
+use Rattle.rules.proofs.LawsSheetRows.{CallRows, call-rows}
 use Rattle.sheet_lines.specs.Piece.{piece, PieceEnd}
 use Rattle.sheet_lines.proofs.LawsLines.{unended-end}
-use Rattle.sheet_judge.specs.Counts.{countsOf, fits, fitsAs, more, moreAs, Counting, rowWith}
+use Rattle.sheet_judge.specs.Counts.{countsOf, fits, fitsAs, more, moreAs, Few, rowWith}
 use Rattle.sheet_judge.specs.Sheets.{judgeValues}
 use Rattle.sheet_judge.specs.Read.{lineCounts, countedIn, ValuesAre}
 use Rattle.sheet_judge.specs.declared.counts.Counts.{Counts}
 use Rattle.sheet_judge.specs.declared.call.Counted.the-variants.{Right, Bad}
 use Rattle.sheet_judge.proofs.LawsCell.{empty-no}
-use Rattle.sheet_judge.proofs.LawsCounts.{counting-none, counting-fits, counting-more}
+use Rattle.sheet_judge.proofs.LawsCounts.{counts-few, counts-fit, counts-more}
 use Rattle.sheet_judge.proofs.LawsRows.{lineRight}
 use Rattle.sheet_judge.proofs.LawsSheets.{values-bad, values-unended}
 use Rattle.sheet_judge.proofs.LawsPassed.{Passed, passed-none, passed-left, passed-all, passed-next, passed-end, rest-end}
@@ -61,16 +62,25 @@ module _ (c : Columns) (k : Counts) (line : List ℕ) where
 
 pub record CountedTo (c : Columns) (input : List ℕ) (first from next at : ℕ) (k : Counts) : Type 0 where
   pub passed : Passed (callRowRight 64) c input first from next at
-  pub counting : Counting 64 (map (rowIn c) (passed .lines)) k
+  pub counts : k ≡ countsOf (map (rowIn c) (passed .lines))
+
+-- right lines have few rows of each part
+pub judged-few : (c : Columns) (first : ℕ) (lines : List (List ℕ)) {k : Counts} → judgeRows (callRowRight 64) c first [] lines ≡ right
+    → k ≡ countsOf (map (rowIn c) lines) → Few 64 k
+judged-few c first lines e counts = rw counts (counts-few 64 (map (rowIn c) lines) (call-rows 64 c first lines e))
 
 pub values-none : (c : Columns) (input : List ℕ) (first from : ℕ) → from ≤ length input
     → CountedTo c input first from first from (countsOf [])
 unfolding passed-none
-values-none c input first from h = record { passed = passed-none (callRowRight 64) c input first from h; counting = counting-none 64 }
+values-none c input first from h = record { passed = passed-none (callRowRight 64) c input first from h; counts = refl }
 
 module _ {c : Columns} {input : List ℕ} {first from next at : ℕ} {k : Counts} (s : CountedTo c input first from next at k) where
+  rows-right : CallRows 64 (map (rowIn c) (s .passed .lines))
+  rows-right = call-rows 64 c first (s .passed .lines) (s .passed .judged)
+
   line-counts : (line : List ℕ) → lineRight (callRowRight 64) c (map (rowIn c) (s .passed .lines)) line ≡ lineCounts c k line
-  line-counts line = ap (λ b. threeCells (cellsIn line) && b) (counting-fits (s .counting) (rowIn c line))
+  line-counts line =
+      ap (λ b. threeCells (cellsIn line) && b) (counts-fit 64 (map (rowIn c) (s .passed .lines)) rows-right (rowIn c line) ∙ ap (λ j. fits 64 j (rowIn c line)) (sym (s .counts)))
 
   module _ {end : ℕ} (found : PieceEnd 10 input at (length input) end) where
     pub values-ended : at < length input → end ≡ length input → judgeValues 64 c first (linesIn (drop from input)) (unended (drop from input)) ≡ bad 30 next
@@ -94,10 +104,12 @@ module _ {c : Columns} {input : List ℕ} {first from next at : ℕ} {k : Counts
         let r = right-counted c k (piece input at end) m e in
         record {
           passed = passed-next (s .passed) found h (line-counts (piece input at end) ∙ r .0);
-          counting =
-              rw (map-append (rowIn c) (s .passed .lines) (piece input at end ∷ []), ← r .1)
-              (counting-more (s .counting) (rowIn c (piece input at end))
-              (and-right (threeCells (cellsIn (piece input at end))) (fits 64 k (rowIn c (piece input at end))) (r .0)));
+          counts =
+              sym (r .1)
+              ∙ ap (λ j. more j (rowIn c (piece input at end))) (s .counts)
+              ∙ counts-more 64 (map (rowIn c) (s .passed .lines)) (rowIn c (piece input at end))
+              (ap (λ j. fits 64 j (rowIn c (piece input at end))) (sym (s .counts)) ∙ and-right (threeCells (cellsIn (piece input at end))) (fits 64 k (rowIn c (piece input at end))) (r .0))
+              ∙ ap countsOf (sym (map-append (rowIn c) (s .passed .lines) (piece input at end ∷ [])));
         }
 
   pub values-all : length input ≤ at → ValuesAre c input from first k
@@ -105,5 +117,5 @@ module _ {c : Columns} {input : List ℕ} {first from next at : ℕ} {k : Counts
       record {
         judged = rw (passed-end (s .passed) h) (s .passed .judged);
         ended = rw (rest-end (s .passed) h);
-        counting = rw (passed-end (s .passed) h) (s .counting);
+        counts = rw (passed-end (s .passed) h) (s .counts);
       }

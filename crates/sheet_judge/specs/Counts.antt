@@ -1,6 +1,5 @@
 -- Rows of a call in counts (01, sheets): what a row asks of the rows before it, and what it adds to them.
 -- B is the number of values that each part of a call may have.
-use mathlib.Core.Path.{_≡_}
 use mathlib.Core.Bool.{Bool, false, cond, _&&_, _||_}
 use mathlib.Core.List.{List}
 use Prim.Native.Nat.{ℕ, _+_, _≤_}
@@ -66,10 +65,3 @@ pub record Few (B : ℕ) (k : Counts) : Type 0 where
   pub few-n : k .n ≤ B
   pub few-s : k .s ≤ B
   pub few-d : k .d ≤ B
-
--- the counts of rows of which each was right behind those before it: no part has too many, and no star stands twice
-pub record Counting (B : ℕ) (rows : List Row) (k : Counts) : Type 0 where
-  pub counts : k ≡ countsOf rows
-  pub few : Few B k
-  pub one-star : tally (isPart star) rows ≤ 1
-  pub one-double : tally (isPart double) rows ≤ 1

@@ -8,7 +8,7 @@ use Rattle.rules.specs.SheetLines as rules
 use Rattle.rules.specs.SheetRows.{isEmpty, parameterRowRight, callRowRight}
 use Rattle.rules.specs.SheetInput.{right, bad, judgeRows}
 use Rattle.sheet_lines.specs.Header.{columnsOf, Below}
-use Rattle.sheet_judge.specs.Counts.{parameterFits, fits, more, Counting}
+use Rattle.sheet_judge.specs.Counts.{parameterFits, countsOf, fits, more}
 use Rattle.sheet_judge.specs.Sheets.{judgeParameters, judgeSteps, judgeCall, judgeValues}
 use Rattle.sheet_judge.specs.declared.counts.Counts.{Counts}
 use Rattle.sheet_judge.specs.declared.parameters.ParameterPlaces.{ParameterPlaces}
@@ -73,7 +73,7 @@ countedIn c k line = cond (lineCounts c k line) (counted.Right (more k (rules.ro
 pub record ValuesAre (c : rules.Columns) (input : List ℕ) (from first : ℕ) (k : Counts) : Type 0 where
   pub judged : judgeRows (callRowRight 64) c first [] (rules.linesIn (drop from input)) ≡ right
   pub ended : isEmpty (rules.unended (drop from input)) ≡ true
-  pub counting : Counting 64 (map (rules.rowIn c) (rules.linesIn (drop from input))) k
+  pub counts : k ≡ countsOf (map (rules.rowIn c) (rules.linesIn (drop from input)))
 
 abbrev pub ValuesRead : rules.Columns → List ℕ → ℕ → ℕ → Values → Type 0
 ValuesRead c input from first (values.Right k) = ValuesAre c input from first k

@@ -14,11 +14,12 @@ use Rattle.rules.specs.Value as rules
 use Rattle.rules.specs.Parameters.{ParameterKind, required, optional, defaulted, args, kwargs, plain, actOf}
 use Rattle.rules.specs.SheetValue.{decimal, printValue}
 use Rattle.rules.specs.SheetOutput.{line, slotName}
-use Rattle.rules.specs.SheetPrintable.{printable}
+use Rattle.sheet_output.specs.Printable.{printable}
 use Rattle.rules.proofs.LawsListing.{and-left}
 use Rattle.rules.proofs.LawsText.{payload-of-halves}
 use Rattle.rules.proofs.LawsDigits.{decimal-length}
-use Rattle.rules.proofs.LawsSheetOutput.{printable-length, text-length, slotName-length}
+use Rattle.rules.proofs.LawsSheetOutput.{text-length, slotName-length}
+use Rattle.sheet_output.proofs.LawsPrintable.{printable-length}
 use Rattle.cells.specs.Out.{Put}
 use Rattle.cells.specs.Text.{textOf, readText, partAt}
 use Rattle.cells.specs.Value.{value, pairOf, cellsOf, realOf, valueAs, valueOf, wellFormedSlot, readSlot}

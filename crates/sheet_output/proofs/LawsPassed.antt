@@ -25,13 +25,14 @@ use Rattle.rules.specs.Placement.{slotOf, place, starRemainder, namedRemainder}
 use Rattle.rules.specs.Collection.{accepted, outcomeOf, callOf, askRecords, collection}
 use Rattle.rules.specs.SheetValue.{decimal}
 use Rattle.rules.specs.SheetOutput.{line, slotLines, starLines, namedLines, acceptedText, detailText, outcomeText}
-use Rattle.rules.specs.SheetPrintable.{printable, printableText, printableNamed, printableParameter, AllPrintable, answerInside}
-use Rattle.rules.proofs.LawsListing.{and-left, and-right, and-both, all-append, all-drop, all-imp, all-map}
+use Rattle.sheet_output.specs.Printable.{printable, printableText, printableNamed, printableParameter, AllPrintable, answerInside}
+use Rattle.rules.proofs.LawsListing.{and-left, and-right, and-both, all-append, all-drop, all-imp, all-map, all-keep}
 use Rattle.rules.proofs.LawsText.{isText-weaker}
 use Rattle.rules.proofs.LawsAnswer.{then-left, then-right}
 use Rattle.rules.proofs.LawsPrinted.{list-few}
 use Rattle.rules.proofs.LawsDigits.{decimal-length}
-use Rattle.rules.proofs.LawsSheetOutput.{printableSlot, line-length, slotLines-length, starLines-length, namedLines-length, refusal-length, detail-length, all-keep, then-inside, binding-inside, parameters-inside, call-inside, board-inside, text-printable, parameters-printable}
+use Rattle.rules.proofs.LawsSheetOutput.{line-length, refusal-length}
+use Rattle.sheet_output.proofs.LawsPrintable.{printableSlot, slotLines-length, starLines-length, namedLines-length, detail-length, then-inside, binding-inside, parameters-inside, call-inside, board-inside, text-printable, parameters-printable}
 use Rattle.builder.specs.Build.{IsList}
 use Rattle.builder.specs.declared.spec.ParametersSpec.{ParametersSpec}
 use Rattle.calls.specs.Head.{Few}

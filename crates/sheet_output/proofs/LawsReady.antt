@@ -22,12 +22,10 @@ use Rattle.rules.specs.Board.{slotValue, written, boardAfter}
 use Rattle.rules.specs.Collection.{Outcome, refused, accepted, outcomeOf}
 use Rattle.rules.specs.SheetValue.{decimal, printValue}
 use Rattle.rules.specs.SheetOutput.{line, slotName, slotText, slotLines, starLines, namedLines, acceptedText, refusalText, outcomeText}
-use Rattle.rules.specs.SheetPrintable.{printable, printableText, printableNamed, printableParameter, AllPrintable, areaOf, partInside, detailInside, answerInside}
-use Rattle.rules.proofs.LawsListing.{and-left, and-right, all-drop}
-use Rattle.rules.proofs.LawsSheetOutput.{all-keep}
+use Rattle.sheet_output.specs.Printable.{printable, printableText, printableNamed, printableParameter, AllPrintable, areaOf, partInside, detailInside, answerInside}
+use Rattle.rules.proofs.LawsListing.{and-left, and-right, all-drop, all-keep}
 use Rattle.cells.specs.Text.{partAt}
 use Rattle.cells.specs.Record.{pairAt}
-use Rattle.cells.specs.Listed.{listed}
 use Rattle.cells.proofs.LawsListed.{length-listed, all-at, getD-listed}
 use Rattle.builder.specs.Params.{kindFor, parameterOf, parameterAt, parametersIn}
 use Rattle.builder.specs.declared.params.Parameters.{Parameters}

@@ -23,10 +23,10 @@ use Rattle.rules.specs.Placement.{Slot, empty, taken, fromDefault, starCount, n
 use Rattle.rules.specs.Board.{slotValue, slotCells, namedCells}
 use Rattle.rules.specs.SheetValue.{decimal, printValue}
 use Rattle.rules.specs.SheetOutput.{line, slotName, slotText, slotLines, starLines, namedLines}
-use Rattle.rules.specs.SheetPrintable.{printable, printableText, printableNamed, printableParameter, printableDefault}
+use Rattle.sheet_output.specs.Printable.{printable, printableText, printableNamed, printableParameter, printableDefault}
 use Rattle.rules.proofs.LawsListing.{and-left, and-right}
 use Rattle.rules.proofs.LawsRecord.{length-writeEach, readEach-writeEach, valueCells-wide, readValue-valueCells, pairCells-wide, readPair-pairCells}
-use Rattle.rules.proofs.LawsSheetOutput.{printableSlot, printable-inside, printable-bytes, parameter-text}
+use Rattle.sheet_output.proofs.LawsPrintable.{printableSlot, printable-inside, printable-bytes, parameter-text}
 use Rattle.cells.specs.Record.{pairAt}
 use Rattle.cells.specs.Value.{value, wellFormedSlot}
 use Rattle.cells.proofs.LawsListed.{all-at}

@@ -1,4 +1,5 @@
--- What printing a call promises: the cells of a line, the lines of a board, and how a call ends.
+-- What printing a call promises: the cells of a line, the lines of a board, what can be printed, and how a call ends.
 pub mod Line
 pub mod Parts
+pub mod Printable
 pub mod Outcome

@@ -11,7 +11,7 @@ use Rattle.rules.specs.Parameters.{Parameter}
 use Rattle.rules.specs.Collection.{outcomeOf}
 use Rattle.rules.specs.SheetValue.{decimal}
 use Rattle.rules.specs.SheetOutput.{line, refusalText}
-use Rattle.rules.specs.SheetPrintable.{AllPrintable, answerInside}
+use Rattle.sheet_output.specs.Printable.{AllPrintable, answerInside}
 use Rattle.builder.specs.Params.{parametersIn}
 use Rattle.builder.specs.declared.params.Parameters.{Parameters}
 use Rattle.builder.specs.declared.spec.ParametersSpec.{ParametersSpec}

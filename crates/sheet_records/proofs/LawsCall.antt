@@ -7,7 +7,7 @@ use mathlib.Core.List.{List, [], _∷_, _++_, map, append-nil}
 use Prim.Native.Nat.{ℕ, suc, _+_, _-_, _*_, _≤_, _<_}
 use native.Mathlib.Numerals.{add-one}
 use native.Mathlib.Omega.{arith}
-use lib.ListN.{length, length-append, length-map}
+use lib.ListN.{length, length-append}
 use Rattle.rules.specs.Cells.{writeEach}
 use Rattle.rules.specs.Listing.{tally}
 use Rattle.rules.specs.Value.{Value, valueWidth, valueCells, readValue}
@@ -16,6 +16,7 @@ use Rattle.rules.specs.SheetLines.{Row}
 use Rattle.rules.specs.SheetRows.{CallPart, positional, named, item, entry, isPart}
 use Rattle.rules.specs.SheetRecords.{callTexts, areaOf, Placed, placedFrom, rowValue, namedPair, entryPair, ofPart, callRecord}
 use Rattle.rules.proofs.LawsRecord.{length-writeEach, valueCells-wide, pairCells-wide}
+use Rattle.rules.proofs.LawsSheetForm.{part-many}
 use Rattle.cells.specs.Out.{stored}
 use Rattle.cells.specs.Value.{value}
 use Rattle.cells.proofs.LawsOut.{stored-stored}
@@ -82,23 +83,6 @@ module _ {X : Type 0} (part : CallPart) (f : Placed → X) (write : X → List �
           ≡ cond b (keyCells true part at r ++ valueCells (lastValue true at r)) [] ++ runFrom true part (at + length (rowTexts true r)) rows
       go true e = ap₂ (λ a b. a ++ b) (sym (same at r)) e
       go false e = e
-
-part-count : (part : CallPart) (at : ℕ) (rows : List Row) → length (ofPart part (placedFrom at rows)) ≡ tally (isPart part) rows
-unfolding ofPart
-part-count part at [] = refl
-part-count part at (r ∷ rows) = go (isPart part r) (part-count part (at + length (callTexts r)) rows)
-  where
-    rest : List Placed
-    rest = ofPart part (placedFrom (at + length (callTexts r)) rows)
-
-    go : (b : Bool) → length rest ≡ tally (isPart part) rows
-        → length (cond b (placed r at ∷ rest) rest) ≡ cond b (suc (tally (isPart part) rows)) (tally (isPart part) rows)
-    go true e = ap suc e
-    go false e = e
-
--- how many of a part the record has
-part-many : {X : Type 0} (part : CallPart) (f : Placed → X) (rows : List Row) → length (map f (ofPart part (placedFrom 0 rows))) ≡ tally (isPart part) rows
-part-many part f rows = length-map (ofPart part (placedFrom 0 rows)) f ∙ part-count part 0 rows
 
 -- one part more
 pub parts-next : (rows : List Row) (n : ℕ) → n < 4 → (part : CallPart) → part ≡ partAt n → partsFrom rows n (4 - n) ≡ runFrom true part 0 rows ++ partsFrom rows (n + 1) (4 - (n + 1))

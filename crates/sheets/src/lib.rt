@@ -10,7 +10,7 @@ use sheet_judge::Judged;
 use sheet_judge::judge_input;
 use sheet_output::outcome::write_refused_count;
 ghost use mathlib.Core.Path.{_≡_};
-ghost use Rattle.sheets.specs.Bind.{Binding};
+ghost use Rattle.sheets.specs.Bind.{Binding, ReadRoom, TextOfRead};
 ghost use Rattle.sheets.specs.Read.{roomFor, SheetsReading};
 
 pub mod records;
@@ -37,6 +37,19 @@ pub fn bind(input: &[u8], out: &mut [u8]) -> Bound
     match judge_input(input) {
         Judged::Bad(line) => Bound::Written(write_refused_count(BAD_INPUT, line as u64, out)),
         Judged::Right(places) => Bound::Written(bind_sheets(input, places, out)),
+    }
+}
+
+// The text of an input of which the first n bytes of a buffer were read.
+pub fn bind_read<'a>(buffer: &[u8], n: usize, out: &'a mut [u8]) -> &'a [u8]
+    requires { ⌜ ReadRoom (now buffer) n (now out) ⌝ }
+    ensures { λ r. ⌜ TextOfRead (now (buffer .entry)) n (now r) ⌝ }
+{
+    let bound = bind(&buffer[..n], out);
+    let written = &out[..];
+    match bound {
+        Bound::Written(len) => &written[..len],
+        Bound::NoRoom => written,
     }
 }
 

@@ -8,7 +8,7 @@ use lib.ListN.{length}
 use borrow.Author.Needs.{needs}
 use Rattle.rules.specs.SheetInput.{inputMost}
 use Rattle.sheet_lines.specs.Header.{columnsOf}
-use Rattle.sheet_judge.proofs.LawsValues.{CountedTo, values-none, values-ended, values-wrong, values-next, values-all}
+use Rattle.sheet_judge.proofs.LawsValues.{CountedTo, judged-few, values-none, values-ended, values-wrong, values-next, values-all}
 use Rattle.sheet_judge.proofs.call.read_values.Statement.{statement}
 use Rattle.sheet_judge.proofs.call.read_values.Tie as tie
 
@@ -38,7 +38,7 @@ count-line-requires : tie.Need-count-line-requires Inv-loop μ-loop
 count-line-requires c κs =
     let e = c .before .end-of .ensures in
     let l = c .before .before .before .loop in
-    (e .after, e .within, l .inv .counting .few)
+    (e .after, e .within, judged-few _ _ (l .inv .passed .lines) (l .inv .passed .judged) (l .inv .counts))
 
 returns-2 : tie.Need-returns-2 Inv-loop μ-loop
 returns-2 c =
