@@ -164,8 +164,8 @@ module _ (required more : ℕ) (cells area out : List ℕ) where
 
         module _ (low : required ≤ h .p + h .s) (high : h .p + h .s ≤ required + more) where
           -- both runs fit
-          pub missing-room : 2 * (h .p + h .s) + 2 * (required + more - (h .p + h .s)) ≤ length out
-          missing-room = omega (arith, writing-long cells area out passed)
+          pub missing-room : (2 * (h .p + h .s) ≤ length out) × (2 * (required + more) ≤ length out)
+          missing-room = (omega (arith, writing-long cells area out passed), omega (arith, writing-long cells area out passed))
 
           abbrev values : List Value
           values = valuesIn cells h 0 (h .p + h .s)

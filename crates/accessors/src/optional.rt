@@ -10,7 +10,7 @@ use cells::answer::Answer;
 use cells::out::put;
 use cells::value::Pair;
 ghost use mathlib.Core.Path.{_≡_};
-ghost use Prim.Native.Nat.{_+_, _*_, _≤_};
+ghost use Prim.Native.Nat.{_-_, _*_, _≤_};
 ghost use lib.ListN.{length, replicate};
 ghost use Rattle.rules.specs.Cells.{writeEach};
 ghost use Rattle.rules.specs.Value.{valueCells, noValue};
@@ -54,18 +54,18 @@ pub fn optional(
         return Accessed::WrongNumberOfArgs(required, most, got);
     }
     write_values(cells, h, 0, got, 0, out);
-    write_missing(VALUE * got, most - got, out);
+    write_missing(got, most, out);
     Accessed::Answered(got)
 }
 
-// `count` values that are missing, stored from cell `at` on.
-fn write_missing(at: usize, count: usize, out: &mut [u64])
-    requires { ⌜ at + 2 * count ≤ length (now out) ⌝ }
-    ensures { λ _. ⌜ now (out .exit) ≡ stored (now (out .entry)) at (writeEach valueCells (replicate count noValue)) ⌝ }
+// The values from `from` on, before `to`, are missing: each is stored at its place.
+fn write_missing(from: usize, to: usize, out: &mut [u64])
+    requires { ⌜ (2 * from ≤ length (now out)) × (2 * to ≤ length (now out)) ⌝ }
+    ensures { λ _. ⌜ now (out .exit) ≡ stored (now (out .entry)) (2 * from) (writeEach valueCells (replicate (to - from) noValue)) ⌝ }
 {
-    let mut k = 0;
-    while k < count {
-        put(out, at + VALUE * k, Pair::new(0, 0));
+    let mut k = from;
+    while k < to {
+        put(out, VALUE * k, Pair::new(0, 0));
         k += 1;
     }
 }

@@ -53,7 +53,8 @@ pub fn collect(
     bind(list, spec, call_cells, area, board)
 }
 
-// A call against a list that was built before: a gateway binds all day against one. What it requires, `build` promises of each list.
+// A call against a list that `build` handed out: the step behind `collect` and `bind` of sheets. What it requires, `build` promises of each list.
+// Who binds against one list again and again has `prepared` for it, which requires nothing.
 pub fn bind(
     list: ParametersSpec,
     spec: &[u8],

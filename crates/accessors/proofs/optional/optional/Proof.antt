@@ -88,4 +88,4 @@ returns-7 c =
     optional-written _ _ _ _ _ (n .before .if1 .left) (n .if2 .left) _ (r .read-head .ensures) (passed (r .before)) (s .if3 .left) (u .before .if4 .left) (no-more u) _ _ (w .write-values .ensures) (m .write-missing .ensures)
 
 pub optional-spec : {M : Type 1} → statement M
-optional-spec = tie.close (tie.spec returns returns-2 (λ c κs. search needs) (λ c. search needs) (λ c. search needs) returns-3 (λ c. search needs) (λ c κs. search needs) (λ c. search needs) returns-4 add-got (λ c. search needs) (λ c. search needs) returns-5 (λ c. search needs) returns-6 write-values-requires (λ c. search needs) write-missing-requires (λ c. search needs) returns-7)
+optional-spec = tie.close (tie.spec returns returns-2 (λ c κs. search needs) (λ c. search needs) (λ c. search needs) returns-3 (λ c. search needs) (λ c κs. search needs) (λ c. search needs) returns-4 add-got (λ c. search needs) (λ c. search needs) returns-5 (λ c. search needs) returns-6 write-values-requires write-missing-requires (λ c. search needs) returns-7)
