@@ -23,7 +23,7 @@ use Rattle.rules.specs.Accessors.{denied, gives, accessOf, askWriting, len}
 use Rattle.rules.proofs.LawsAnswer.{then-left, then-right, ask-true}
 use Rattle.rules.proofs.LawsNumbers.{refusesIn, then-in, ask-in, number-in, wider-in, call-in}
 use Rattle.calls.proofs.LawsNamed.{passed-star, passed-double}
-use Rattle.accessors.specs.Answer.{isNumbered, accessIn, nameIn, Accessing}
+use Rattle.accessors.specs.Answer.{isNumbered, accessIn, ofName, Accessing}
 use Rattle.accessors.specs.declared.answer.Accessed.{Accessed}
 use Rattle.accessors.specs.declared.answer.Accessed.the-variants.{Answered, Record, ArgsArrayIsNotIterable, KwArgsIsNotDict, ArgsValueIsNotString, RepeatedArg, ExtraNamedArg, WrongNumberOfArgs}
 use Rattle.accessors.proofs.answer.Accessed.{the-type}
@@ -123,12 +123,12 @@ len-refused cells area n e = rw e
 abbrev pub withoutName : List ℕ
 withoutName = 0 ∷ 1 ∷ 2 ∷ 3 ∷ 4 ∷ 7 ∷ []
 
-pub nameless : (call : List ℕ) (r : Accessed) → OneOf withoutName (tagOf the-type r) → nameIn call r ≡ []
-nameless call (Answered k) h = refl
-nameless call (Record n) h = refl
-nameless call ArgsArrayIsNotIterable h = refl
-nameless call KwArgsIsNotDict h = refl
-nameless call ArgsValueIsNotString h = refl
-nameless call (RepeatedArg name) h = absurd (miss withoutName 5 tt h)
-nameless call (ExtraNamedArg n name) h = absurd (miss withoutName 6 tt h)
-nameless call (WrongNumberOfArgs least most got) h = refl
+pub nameless : {X : Type 0} (unnamed : X) (inCall : ℕ → X) (r : Accessed) → OneOf withoutName (tagOf the-type r) → ofName unnamed inCall r ≡ unnamed
+nameless unnamed inCall (Answered k) h = refl
+nameless unnamed inCall (Record n) h = refl
+nameless unnamed inCall ArgsArrayIsNotIterable h = refl
+nameless unnamed inCall KwArgsIsNotDict h = refl
+nameless unnamed inCall ArgsValueIsNotString h = refl
+nameless unnamed inCall (RepeatedArg name) h = absurd (miss withoutName 5 tt h)
+nameless unnamed inCall (ExtraNamedArg n name) h = absurd (miss withoutName 6 tt h)
+nameless unnamed inCall (WrongNumberOfArgs least most got) h = refl

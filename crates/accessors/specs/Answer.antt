@@ -1,13 +1,14 @@
 -- 01's number and values for each answer of an accessor, which numbers an answer can have, what an accessor promises, and the bytes of the name
--- in a detail.
+-- in a detail and where they lie.
 use mathlib.Core.Path.{_≡_}
 use mathlib.Core.Bool.{Bool, true, _&&_, _||_}
 use mathlib.Core.List.{List, []}
 use Prim.Native.Nat.{ℕ}
 use lib.Dec.{leb, eqb}
+use denote.Ref.{RefT}
 use Rattle.rules.specs.Answer as rules
 use Rattle.rules.specs.Accessors.{Access, denied, gives, leftBy}
-use Rattle.cells.specs.Text.{partAt}
+use Rattle.cells.specs.Text.{partAt, placeAt}
 use Rattle.answers.specs.Answer.{placeOf}
 use Rattle.accessors.specs.declared.answer.Accessed.{Accessed}
 use Rattle.accessors.specs.declared.answer.Accessed.the-variants.{Answered, Record, ArgsArrayIsNotIterable, KwArgsIsNotDict, ArgsValueIsNotString, RepeatedArg, ExtraNamedArg, WrongNumberOfArgs}
@@ -45,13 +46,21 @@ pub record Accessing (access : Access) (written before after : List ℕ) (r : Ac
   pub answering : Answering access r
   pub output : after ≡ leftBy access written before
 
--- the bytes of the name in an answer's detail
+-- what is said of the name in an answer's detail, which stands in the call area, by its payload; `unnamed` where no name goes with the answer
+abbrev pub ofName : {X : Type 0} → X → (ℕ → X) → Accessed → X
+ofName unnamed inCall (Answered k) = unnamed
+ofName unnamed inCall (Record n) = unnamed
+ofName unnamed inCall ArgsArrayIsNotIterable = unnamed
+ofName unnamed inCall KwArgsIsNotDict = unnamed
+ofName unnamed inCall ArgsValueIsNotString = unnamed
+ofName unnamed inCall (RepeatedArg name) = inCall name
+ofName unnamed inCall (ExtraNamedArg n name) = inCall name
+ofName unnamed inCall (WrongNumberOfArgs least most got) = unnamed
+
+-- its bytes
 abbrev pub nameIn : List ℕ → Accessed → List ℕ
-nameIn call (Answered k) = []
-nameIn call (Record n) = []
-nameIn call ArgsArrayIsNotIterable = []
-nameIn call KwArgsIsNotDict = []
-nameIn call ArgsValueIsNotString = []
-nameIn call (RepeatedArg name) = partAt call name
-nameIn call (ExtraNamedArg n name) = partAt call name
-nameIn call (WrongNumberOfArgs least most got) = []
+nameIn call r = ofName [] (partAt call) r
+
+-- where it begins in the call area; the area's own place where no name goes with the answer
+abbrev pub namePlace : RefT (List ℕ) → Accessed → ℕ × ℕ
+namePlace call r = ofName (call .ptr) (placeAt call) r

@@ -2,7 +2,7 @@
 // Reworked from starlark 0.14.2, src/eval/runtime/arguments.rs, Apache-2.0.
 use answers::answer::Collected;
 ghost use mathlib.Core.Path.{_≡_};
-ghost use Rattle.accessors.specs.Answer.{nameIn};
+ghost use Rattle.accessors.specs.Answer.{nameIn, namePlace};
 
 // A name is the payload of a text in the call area.
 pub enum Accessed {
@@ -26,7 +26,8 @@ pub enum Accessed {
 
 // The bytes of the name that goes with an answer, as collection hands them back; none where no name goes with it.
 pub fn name_of<'a>(call: &'a [u8], answer: Accessed) -> &'a [u8]
-    ensures { λ r. ⌜ now r ≡ nameIn (now (call .entry)) answer ⌝ }
+    ensures bytes { λ r. ⌜ now r ≡ nameIn (now (call .entry)) answer ⌝ }
+    ensures place { λ r. ⌜ r .ptr ≡ namePlace (call .entry) answer ⌝ }
 {
     match answer {
         Accessed::RepeatedArg(name) => {

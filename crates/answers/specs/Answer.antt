@@ -1,13 +1,15 @@
--- 01's number and detail for each answer of collection, which numbers an answer can have, and the bytes of the name in a detail.
+-- 01's number and detail for each answer of collection, which numbers an answer can have, and the bytes of the name in a detail and where they
+-- lie.
 use mathlib.Core.Bool.{Bool, true, false, _&&_}
 use mathlib.Core.List.{List, []}
 use Prim.Native.Nat.{ℕ}
 use lib.Dec.{leb}
+use denote.Ref.{RefT}
 use Rattle.rules.specs.Text.{startOf, sizeOf}
 use Rattle.rules.specs.Answer as rules
 use Rattle.rules.specs.Placement as placement
 use Rattle.rules.specs.Collection.{Outcome, refused, accepted}
-use Rattle.cells.specs.Text.{partAt}
+use Rattle.cells.specs.Text.{partAt, placeAt}
 use Rattle.answers.specs.declared.answer.Counts.{Counts}
 use Rattle.answers.specs.declared.answer.Collected.{Collected}
 use Rattle.answers.specs.declared.answer.Collected.the-variants.{Accepted, Record, ArgsArrayIsNotIterable, RepeatedParameter, KwArgsIsNotDict, ArgsValueIsNotString, RepeatedArg, MissingPositionalOnly, Missing, MissingNamedOnly, ExtraPositionalArg, ExtraNamedArg}
@@ -80,17 +82,25 @@ isRefusal (MissingNamedOnly name) = true
 isRefusal (ExtraPositionalArg n) = true
 isRefusal (ExtraNamedArg n name) = true
 
--- the bytes of the name in an answer's detail, in the area where it stands
+-- what is said of the name in an answer's detail, by its payload and the area where it stands (01, the questions: the spec area for 16 and 20 to 22, the call area for 19 and 24); `unnamed` where no name goes with the answer
+abbrev pub ofName : {X : Type 0} → X → (ℕ → X) → (ℕ → X) → Collected → X
+ofName unnamed inSpec inCall (Accepted c) = unnamed
+ofName unnamed inSpec inCall (Record n) = unnamed
+ofName unnamed inSpec inCall ArgsArrayIsNotIterable = unnamed
+ofName unnamed inSpec inCall (RepeatedParameter name) = inSpec name
+ofName unnamed inSpec inCall KwArgsIsNotDict = unnamed
+ofName unnamed inSpec inCall ArgsValueIsNotString = unnamed
+ofName unnamed inSpec inCall (RepeatedArg name) = inCall name
+ofName unnamed inSpec inCall (MissingPositionalOnly name) = inSpec name
+ofName unnamed inSpec inCall (Missing name) = inSpec name
+ofName unnamed inSpec inCall (MissingNamedOnly name) = inSpec name
+ofName unnamed inSpec inCall (ExtraPositionalArg n) = unnamed
+ofName unnamed inSpec inCall (ExtraNamedArg n name) = inCall name
+
+-- its bytes
 abbrev pub nameBytes : List ℕ → List ℕ → Collected → List ℕ
-nameBytes spec call (Accepted c) = []
-nameBytes spec call (Record n) = []
-nameBytes spec call ArgsArrayIsNotIterable = []
-nameBytes spec call (RepeatedParameter name) = partAt spec name
-nameBytes spec call KwArgsIsNotDict = []
-nameBytes spec call ArgsValueIsNotString = []
-nameBytes spec call (RepeatedArg name) = partAt call name
-nameBytes spec call (MissingPositionalOnly name) = partAt spec name
-nameBytes spec call (Missing name) = partAt spec name
-nameBytes spec call (MissingNamedOnly name) = partAt spec name
-nameBytes spec call (ExtraPositionalArg n) = []
-nameBytes spec call (ExtraNamedArg n name) = partAt call name
+nameBytes spec call r = ofName [] (partAt spec) (partAt call) r
+
+-- where it begins in its area; the spec area's own place where no name goes with the answer
+abbrev pub namePlace : RefT (List ℕ) → RefT (List ℕ) → Collected → ℕ × ℕ
+namePlace spec call r = ofName (spec .ptr) (placeAt spec) (placeAt call) r

@@ -4,6 +4,7 @@ use mathlib.Core.Bool.{true, cond}
 use mathlib.Core.List.{List, [], _∷_}
 use Prim.Native.Nat.{ℕ, _+_, _-_, _*_, _<_, _≤_}
 use lib.ListN.{length, take, drop, getD}
+use denote.Ref.{RefT, now}
 use Rattle.rules.specs.Text.{startOf, sizeOf, isText, inside, bytesAt, sameBytes}
 use Rattle.cells.specs.declared.text.Text.{Text}
 use Rattle.cells.specs.declared.text.ReadText.{ReadText}
@@ -20,6 +21,10 @@ readText least area payload = cond (isText least area payload) (Is (textOf paylo
 -- the bytes of a payload that lies inside the area, none of any other
 unfoldable pub partAt : List ℕ → ℕ → List ℕ
 partAt area payload = cond (inside area payload) (bytesAt area payload) []
+
+-- where they begin in a lent area, as a block of memory and the number of a byte in it: as many bytes behind the area's own place as the payload's start says; at the area's own place where the payload does not lie inside
+unfoldable pub placeAt : RefT (List ℕ) → ℕ → ℕ × ℕ
+placeAt area payload = cond (inside (now area) payload) (area .ptr .0, startOf payload + area .ptr .1) (area .ptr)
 
 -- the first eight bytes of a text as one number, most significant first: texts that differ here need not be compared byte by byte
 abbrev pub keyFrom : ℕ → List ℕ → ℕ

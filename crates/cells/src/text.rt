@@ -1,7 +1,7 @@
 // Texts: a run of bytes in a lent area (01, cells, texts and records).
 ghost use mathlib.Core.Path.{_≡_};
 ghost use Rattle.rules.specs.Text.{payloadOf, sameBytes};
-ghost use Rattle.cells.specs.Text.{readText, partAt, keyOf};
+ghost use Rattle.cells.specs.Text.{readText, partAt, placeAt, keyOf};
 
 // Where a text starts in its area, and how many bytes it has: the two halves of a payload. Both always fit a payload.
 pub struct Text {
@@ -46,9 +46,10 @@ pub fn read_text(area: &[u8], least: u64, payload: u64) -> ReadText
     })
 }
 
-// The bytes that a payload names; none where it does not lie inside the area.
+// The bytes that a payload names, where they lie in the area; none where the payload does not lie inside the area.
 pub fn part<'a>(area: &'a [u8], payload: u64) -> &'a [u8]
-    ensures { λ r. ⌜ now r ≡ partAt (now (area .entry)) payload ⌝ }
+    ensures bytes { λ r. ⌜ now r ≡ partAt (now (area .entry)) payload ⌝ }
+    ensures place { λ r. ⌜ r .ptr ≡ placeAt (area .entry) payload ⌝ }
 {
     let start = (payload / 256) as usize;
     let len = (payload % 256) as usize;

@@ -17,12 +17,12 @@ find-from-requires : tie.Need-find-from-requires
 find-from-requires c κs =
     let start = c .before .before .before .before .before in
     let a = start .args in
-    subst (OneFits (a .area .now) (a .codes .now) (a .styles .now) (a .names .now) (a .len)) (sym (c .part .ensures)) (start .pre)
+    subst (OneFits (a .area .now) (a .codes .now) (a .styles .now) (a .names .now) (a .len)) (sym (c .part .ensures .0)) (start .pre)
 
 returns-2 : tie.Need-returns-2
 returns-2 c =
     let a = c .before .before .before .before .before .before .args in
-    c .find-from .ensures ∙ ap (findIn (a .area .now) (a .codes .now) (a .styles .now) (a .names .now) (a .len)) (c .before .part .ensures)
+    c .find-from .ensures ∙ ap (findIn (a .area .now) (a .codes .now) (a .styles .now) (a .names .now) (a .len)) (c .before .part .ensures .0)
 
 pub find-near-spec : {M : Type 1} → statement M
 find-near-spec =

@@ -17,7 +17,7 @@ tested : (c : tie.After-is-named) → let a = c .before .before .before .before 
     among (partAt (a .area .now) (a .payload)) (textsOf (namesIn (a .area .now) (a .cells .now) (headOf (a .h)) (a .count))) ≡ c .is-named .result
 tested c =
     let a = c .before .before .before .before .args in
-    sym (c .is-named .ensures ∙ ap (λ l. among l (textsOf (namesIn (a .area .now) (a .cells .now) (headOf (a .h)) (a .count)))) (c .before .part .ensures))
+    sym (c .is-named .ensures ∙ ap (λ l. among l (textsOf (namesIn (a .area .now) (a .cells .now) (headOf (a .h)) (a .count)))) (c .before .part .ensures .0))
 
 returns : tie.Need-returns
 returns c = sym (ap (λ b. cond b (Repeated (c .before .before .before .before .before .args .payload)) Fine) (tested (c .before) ∙ c .if1 .taken))

@@ -44,7 +44,7 @@ same-of c =
     let a = start .args in
     let at = c .before .before .before .before .before in
     ap (sameBytes (a .name .now)) (pair-bytes (a .area .now) (a .cells .now) (headOf (a .h)) (at .loop .k) (start .pre .within (at .loop .k) (c .before .before .before .before .loop-test .taken)))
-    ∙ sym (c .same .ensures ∙ ap (sameBytes (a .name .now)) (c .before .part .ensures ∙ ap (λ v. partAt (a .area .now) (v .payload)) (c .before .before .pair-at .ensures ∙ ap (pairAt (a .cells .now)) (c .before .before .before .named-at .ensures))))
+    ∙ sym (c .same .ensures ∙ ap (sameBytes (a .name .now)) (c .before .part .ensures .0 ∙ ap (λ v. partAt (a .area .now) (v .payload)) (c .before .before .pair-at .ensures ∙ ap (pairAt (a .cells .now)) (c .before .before .before .named-at .ensures))))
 
 returns : tie.Need-returns Inv-loop μ-loop
 returns c =

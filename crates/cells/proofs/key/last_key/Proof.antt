@@ -14,7 +14,7 @@ returns c =
     let parted = c .before in
     let begins = parted .before in
     let start = begins .before .before in
-    c .key-of .ensures ∙ ap keyOf (parted .part .ensures) ∙ last-begin (start .args .area .now) (start .args .payload) (start .pre) (begins .if1 .taken)
+    c .key-of .ensures ∙ ap keyOf (parted .part .ensures .0) ∙ last-begin (start .args .area .now) (start .args .payload) (start .pre) (begins .if1 .taken)
 
 word-at-requires : tie.Need-word-at-requires
 word-at-requires c κs = let start = c .before .before in omega (arith, within (start .args .area .now) (start .args .payload) (start .pre), c .if1 .left)

@@ -6,7 +6,7 @@ use Rattle.cells.proofs.text.same_text.Statement.{statement}
 use Rattle.cells.proofs.text.same_text.Tie as tie
 
 returns : tie.Need-returns
-returns c = c .same .ensures ∙ ap₂ sameBytes (c .before .before .part .ensures) (c .before .part2 .ensures)
+returns c = c .same .ensures ∙ ap₂ sameBytes (c .before .before .part .ensures .0) (c .before .part2 .ensures .0)
 
 pub same-text-spec : {M : Type 1} → statement M
 same-text-spec = tie.close (tie.spec (λ c κs. search needs) (λ c κs. search needs) (λ c κs. search needs) returns)

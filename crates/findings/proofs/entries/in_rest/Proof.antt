@@ -28,7 +28,7 @@ returns c =
     let at = c .before .before .before .before .before .before .loop in
     let tested : sameBytes (a .name .now) (namedAt (a .area .now) (a .cells .now) (getD (a .rest .now) (at .k) 0) .name .bytes) ≡ c .before .same .result =
     ap (sameBytes (a .name .now)) (name-part (a .area .now) (a .cells .now) (getD (a .rest .now) (at .k) 0) (start .pre .named (at .k) (search needs) .inside))
-    ∙ sym (c .before .same .ensures ∙ ap (sameBytes (a .name .now)) (c .before .before .part .ensures ∙ ap (λ v. partAt (a .area .now) (v .payload)) (c .before .before .before .pair-at .ensures))) in
+    ∙ sym (c .before .same .ensures ∙ ap (sameBytes (a .name .now)) (c .before .before .part .ensures .0 ∙ ap (λ v. partAt (a .area .now) (v .payload)) (c .before .before .before .pair-at .ensures))) in
     sym (at .inv ∙ among-next (a .area .now) (a .cells .now) (a .rest .now) (a .count) (a .name .now) (omega (arith, start .pre .few, start .pre .pairs)) (at .k) (search needs) ∙ ap (λ b. b || among (a .name .now) (textsOf (namesFrom (a .area .now) (a .cells .now) (a .rest .now) (a .count) (at .k + 1)))) (tested ∙ c .if1 .taken))
 
 loop-again : tie.Need-loop-again Inv-loop μ-loop
@@ -38,7 +38,7 @@ loop-again c =
     let at = c .before .before .before .before .before .before .loop in
     let tested : sameBytes (a .name .now) (namedAt (a .area .now) (a .cells .now) (getD (a .rest .now) (at .k) 0) .name .bytes) ≡ c .before .same .result =
     ap (sameBytes (a .name .now)) (name-part (a .area .now) (a .cells .now) (getD (a .rest .now) (at .k) 0) (start .pre .named (at .k) (search needs) .inside))
-    ∙ sym (c .before .same .ensures ∙ ap (sameBytes (a .name .now)) (c .before .before .part .ensures ∙ ap (λ v. partAt (a .area .now) (v .payload)) (c .before .before .before .pair-at .ensures))) in
+    ∙ sym (c .before .same .ensures ∙ ap (sameBytes (a .name .now)) (c .before .before .part .ensures .0 ∙ ap (λ v. partAt (a .area .now) (v .payload)) (c .before .before .before .pair-at .ensures))) in
     at .inv ∙ among-next (a .area .now) (a .cells .now) (a .rest .now) (a .count) (a .name .now) (omega (arith, start .pre .few, start .pre .pairs)) (at .k) (search needs) ∙ ap (λ b. b || among (a .name .now) (textsOf (namesFrom (a .area .now) (a .cells .now) (a .rest .now) (a .count) (at .k + 1)))) (tested ∙ c .if1 .left)
 
 returns-2 : tie.Need-returns-2 Inv-loop μ-loop

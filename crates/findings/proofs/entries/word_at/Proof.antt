@@ -24,10 +24,10 @@ unfolding wordIn
 returns c =
     let a = c .before .before .before .before .before .before .before .args in
     let found : c .before .before .find-from .result ≡ findIn (a .spec .now) (a .codes .now) (a .styles .now) (a .names .now) (a .len) (partAt (a .area .now) (a .payload)) =
-    c .before .before .find-from .ensures ∙ ap (findIn (a .spec .now) (a .codes .now) (a .styles .now) (a .names .now) (a .len)) (c .before .before .before .part .ensures) in
+    c .before .before .find-from .ensures ∙ ap (findIn (a .spec .now) (a .codes .now) (a .styles .now) (a .names .now) (a .len)) (c .before .before .before .part .ensures .0) in
     let tested =
     c .before .is-taken .ensures
-    ∙ ap₂ (λ f n. takenBy f (a .next) (a .sources .now) (heldNames (a .area .now) (a .cells .now) (a .rest .now) (a .count)) n) found (c .before .before .before .part .ensures) in
+    ∙ ap₂ (λ f n. takenBy f (a .next) (a .sources .now) (heldNames (a .area .now) (a .cells .now) (a .rest .now) (a .count)) n) found (c .before .before .before .part .ensures .0) in
     sym (ap (λ b. freeOr b (a .payload) (findIn (a .spec .now) (a .codes .now) (a .styles .now) (a .names .now) (a .len) (partAt (a .area .now) (a .payload)))) (sym tested ∙ c .if1 .taken))
 
 returns-2 : tie.Need-returns-2
@@ -35,10 +35,10 @@ unfolding wordIn
 returns-2 c =
     let a = c .before .before .before .before .before .before .before .args in
     let found : c .before .before .find-from .result ≡ findIn (a .spec .now) (a .codes .now) (a .styles .now) (a .names .now) (a .len) (partAt (a .area .now) (a .payload)) =
-    c .before .before .find-from .ensures ∙ ap (findIn (a .spec .now) (a .codes .now) (a .styles .now) (a .names .now) (a .len)) (c .before .before .before .part .ensures) in
+    c .before .before .find-from .ensures ∙ ap (findIn (a .spec .now) (a .codes .now) (a .styles .now) (a .names .now) (a .len)) (c .before .before .before .part .ensures .0) in
     let tested =
     c .before .is-taken .ensures
-    ∙ ap₂ (λ f n. takenBy f (a .next) (a .sources .now) (heldNames (a .area .now) (a .cells .now) (a .rest .now) (a .count)) n) found (c .before .before .before .part .ensures) in
+    ∙ ap₂ (λ f n. takenBy f (a .next) (a .sources .now) (heldNames (a .area .now) (a .cells .now) (a .rest .now) (a .count)) n) found (c .before .before .before .part .ensures .0) in
     ap Free found ∙ sym (ap (λ b. freeOr b (a .payload) (findIn (a .spec .now) (a .codes .now) (a .styles .now) (a .names .now) (a .len) (partAt (a .area .now) (a .payload)))) (sym tested ∙ c .if1 .left))
 
 pub word-at-spec : {M : Type 1} → statement M

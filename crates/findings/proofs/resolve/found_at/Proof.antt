@@ -16,7 +16,7 @@ returns c =
     let a = c .before .before .before .before .before .before .args in
     c .find-from .ensures
     ∙ ap (findIn (a .spec .now) (a .codes .now) (a .styles .now) (a .names .now) (a .len))
-    (c .before .part .ensures ∙ ap (λ v. partAt (a .area .now) (v .payload)) (c .before .before .pair-at .ensures))
+    (c .before .part .ensures .0 ∙ ap (λ v. partAt (a .area .now) (v .payload)) (c .before .before .pair-at .ensures))
 
 pub found-at-spec : {M : Type 1} → statement M
 found-at-spec = tie.close (tie.spec (λ c κs. search needs) (λ c κs. search needs) find-from-requires returns)

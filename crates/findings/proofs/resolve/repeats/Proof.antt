@@ -28,7 +28,7 @@ returns-2 c =
     let a = c .before .before .before .before .before .before .before .args in
     let held = heldNames (a .area .now) (a .cells .now) (a .rest .now) (a .count) in
     let name : c .before .part .result .now ≡ partAt (a .area .now) (pairAt (a .cells .now) (a .pair) .payload) =
-    c .before .part .ensures ∙ ap (λ v. partAt (a .area .now) (v .payload)) (c .before .before .pair-at .ensures) in
+    c .before .part .ensures .0 ∙ ap (λ v. partAt (a .area .now) (v .payload)) (c .before .before .pair-at .ensures) in
     c .in-rest .ensures
     ∙ ap (λ b. among b (textsOf held)) name
     ∙ sym (ap (λ f. repeatsBy f (a .sources .now) held (partAt (a .area .now) (pairAt (a .cells .now) (a .pair) .payload))) (c .before .before .before .enum-told .given .1))

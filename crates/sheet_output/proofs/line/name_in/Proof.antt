@@ -6,7 +6,7 @@ use Rattle.sheet_output.proofs.line.name_in.Statement.{statement}
 use Rattle.sheet_output.proofs.line.name_in.Tie as tie
 
 returns : tie.Need-returns
-returns c = let a = c .before .before .before .before .before .args in c .part .ensures ∙ name-shown (a .area .now) (a .payload) _ (sym (c .before .before .before .read-text .ensures) ∙ c .before .enum-told .given .1)
+returns c = let a = c .before .before .before .before .before .args in c .part .ensures .0 ∙ name-shown (a .area .now) (a .payload) _ (sym (c .before .before .before .read-text .ensures) ∙ c .before .enum-told .given .1)
 
 returns-2 : tie.Need-returns-2
 returns-2 c = let a = c .before .before .before .before .before .args in name-hidden (a .area .now) (a .payload) (sym (c .before .before .before .read-text .ensures) ∙ c .before .enum-told2 .given .1)

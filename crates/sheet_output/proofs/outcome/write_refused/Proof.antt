@@ -11,11 +11,11 @@ use Rattle.sheet_output.proofs.outcome.write_refused.Statement.{stateme
 use Rattle.sheet_output.proofs.outcome.write_refused.Tie as tie
 
 write-refusal-requires : tie.Need-write-refusal-requires
-write-refusal-requires c κs = let a = c .before .before .before .before .before .before .args in omega (arith, c .before .before .before .before .before .before .pre, ap length (c .before .name-of .ensures), name-length (a .spec .now) (a .call .now) (a .answer))
+write-refusal-requires c κs = let a = c .before .before .before .before .before .before .args in omega (arith, c .before .before .before .before .before .before .pre, ap length (c .before .name-of .ensures .0), name-length (a .spec .now) (a .call .now) (a .answer))
 
 returns : tie.Need-returns
 unfolding refusedShown
-returns c = put-same _ _ (ap₂ refusalText (c .before .before .before .before .before .number-of .ensures) (c .before .before .before .before .name-of .ensures)) (c .before .before .write-refusal .ensures)
+returns c = put-same _ _ (ap₂ refusalText (c .before .before .before .before .before .number-of .ensures) (c .before .before .before .before .name-of .ensures .0)) (c .before .before .write-refusal .ensures)
 
 pub write-refused-spec : {M : Type 1} → statement M
 write-refused-spec = tie.close (tie.spec (λ c κs. search needs) (λ c κs. search needs) write-refusal-requires (λ c. search needs) returns)

@@ -19,13 +19,13 @@ write-marked-requires : tie.Need-write-marked-requires
 write-marked-requires c κs =
     let k = c .before .before .before .before .before in
     let s = k .before .before .before .before in
-    omega (arith, ap length (c .before .part .ensures), part-length (s .args .spec .now) (k .cells .result .payload), s .pre .0)
+    omega (arith, ap length (c .before .part .ensures .0), part-length (s .args .spec .now) (k .cells .result .payload), s .pre .0)
 
 write-marked-requires-2 : tie.Need-write-marked-requires-2
 write-marked-requires-2 c κs =
     let k = c .before .before .before .before .before in
     let s = k .before .before .before .before in
-    omega (arith, ap length (c .before .part2 .ensures), part-length (s .args .call .now) (k .cells .result .payload), s .pre .0)
+    omega (arith, ap length (c .before .part2 .ensures .0), part-length (s .args .call .now) (k .cells .result .payload), s .pre .0)
 
 -- where the cells are known and the case is told: what the case prints is what the value prints
 prints-as : (k : tie.After-cells) (case : Value) → let a = k .before .before .before .before .args in
@@ -52,11 +52,11 @@ returns-5 c = put-same _ _ (prints-as (c .before .before .before .before .before
 
 returns-6 : tie.Need-returns-6
 returns-6 c =
-    put-same _ _ (ap (λ (l : List ℕ). 115 ∷ l) (c .before .before .before .before .part .ensures) ∙ prints-as (c .before .before .before .before .before .before .before .before) (SpecText _) (c .before .before .before .before .before .before .enum-told6 .given .1)) (c .before .before .write-marked .ensures)
+    put-same _ _ (ap (λ (l : List ℕ). 115 ∷ l) (c .before .before .before .before .part .ensures .0) ∙ prints-as (c .before .before .before .before .before .before .before .before) (SpecText _) (c .before .before .before .before .before .before .enum-told6 .given .1)) (c .before .before .write-marked .ensures)
 
 returns-7 : tie.Need-returns-7
 returns-7 c =
-    put-same _ _ (ap (λ (l : List ℕ). 115 ∷ l) (c .before .before .before .before .part2 .ensures) ∙ prints-as (c .before .before .before .before .before .before .before .before) (CallText _) (c .before .before .before .before .before .before .enum-told7 .given .1)) (c .before .before .write-marked2 .ensures)
+    put-same _ _ (ap (λ (l : List ℕ). 115 ∷ l) (c .before .before .before .before .part2 .ensures .0) ∙ prints-as (c .before .before .before .before .before .before .before .before) (CallText _) (c .before .before .before .before .before .before .enum-told7 .given .1)) (c .before .before .write-marked2 .ensures)
 
 returns-8 : tie.Need-returns-8
 returns-8 c = put-same _ _ (prints-as (c .before .before .before .before .before .before .before) (Handle _) (c .before .before .before .before .before .enum-told8 .given .1)) (c .before .before .write-number2 .ensures)
