@@ -9,21 +9,6 @@ use Rattle.sheets.proofs.LawsBind.{binding-some, binding-within, read-t
 use Rattle.sheets.proofs.bind_read.Statement.{statement}
 use Rattle.sheets.proofs.bind_read.Tie as tie
 
-slice-aggregate-bind : tie.Need-slice-aggregate-bind
-slice-aggregate-bind c = sym (length-take-le _ _ (c .before .before .before .pre .read))
-
-slice-aggregate-result : tie.Need-slice-aggregate-result
-slice-aggregate-result c =
-    let told = c .before .before in
-    let bound = told .before .before .before .before .before in
-    let start = bound .before .before .before .before .before in
-    let a = start .args in
-    let after = bound .bind .last .1 .0 in
-    sym
-    (length-take-le _ _
-    (binding-within (take (a .n) (a .buffer .now)) (a .out .now) (start .pre .output) after (told .bound .given .0 .0)
-    (subst (Binding (take (a .n) (a .buffer .now)) (a .out .now) after) (told .bound .given .1) (bound .bind .ensures))))
-
 returns : tie.Need-returns
 returns c =
     let told = c .before .before in
@@ -42,6 +27,21 @@ returns-2 c =
     let after = bound .bind .last .1 .0 in
     binding-some (take (a .n) (a .buffer .now)) (a .out .now) (start .pre .output) after
     (subst (Binding (take (a .n) (a .buffer .now)) (a .out .now) after) (c .enum-told .given .1) (bound .bind .ensures))
+
+slice-aggregate-bind : tie.Need-slice-aggregate-bind
+slice-aggregate-bind c = sym (length-take-le _ _ (c .before .before .before .pre .read))
+
+slice-aggregate-result : tie.Need-slice-aggregate-result
+slice-aggregate-result c =
+    let told = c .before .before in
+    let bound = told .before .before .before .before .before in
+    let start = bound .before .before .before .before .before in
+    let a = start .args in
+    let after = bound .bind .last .1 .0 in
+    sym
+    (length-take-le _ _
+    (binding-within (take (a .n) (a .buffer .now)) (a .out .now) (start .pre .output) after (told .bound .given .0 .0)
+    (subst (Binding (take (a .n) (a .buffer .now)) (a .out .now) after) (told .bound .given .1) (bound .bind .ensures))))
 
 pub bind-read-spec : {M : Type 1} → statement M
 bind-read-spec = tie.close (tie.spec slice-aggregate-bind (λ c κs. search needs) (λ c. search needs) slice-aggregate-result (λ c. search needs) returns returns-2)
