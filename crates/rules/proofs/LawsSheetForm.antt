@@ -26,7 +26,8 @@ use Rattle.rules.specs.SheetLines.{linesIn, unended, Row}
 use Rattle.rules.specs.SheetRows.{isEmpty, isValue, codeOf, stepRight, parameterRowRight, CallPart, positional, named, star, item, double, entry, isPart, isList, isDict, listBefore, dictBefore, callRowRight}
 use Rattle.rules.specs.SheetInput.{Verdict, right, _else_, unless, judgeSheet, rowsOf, inputMost, parameterLines, callLines, judgeInput}
 use Rattle.rules.specs.SheetRecords.{stepTexts, stepAt, stepsFrom, parameterRecord, callTexts, Placed, placedFrom, rowValue, namedPair, entryPair, ofPart, callRecord, Sheets, sheetsIn}
-use Rattle.rules.specs.SheetForm.{RightForm, sheetsOutcome, sheetQuestion}
+use Rattle.rules.specs.SheetOutput.{sheetsOutcome}
+use Rattle.rules.specs.SheetForm.{RightForm, sheetQuestion}
 use Rattle.rules.proofs.LawsListing.{and-left, and-right, and-both}
 use Rattle.rules.proofs.LawsRecord.{headOf, readHead-encodeCall, length-encodeCall, readCall-encodeCall, stepCount-encodeParameters, length-encodeParameters, readParameters-encodeParameters}
 use Rattle.rules.proofs.LawsParameters.{counts-agree}

@@ -4,13 +4,10 @@ use mathlib.Core.Path.{_≡_}
 use mathlib.Core.Bool.{Bool, true, _&&_, _||_}
 use Prim.Native.Nat.{ℕ}
 use lib.Dec.{leb}
-use lib.ListN.{replicate}
 use Rattle.rules.specs.ParameterRecord.{readParameters, encodeParameters}
 use Rattle.rules.specs.CallRecord.{readCall, encodeCall}
 use Rattle.rules.specs.ParameterQuestions.{wholeSteps, codesKnown}
 use Rattle.rules.specs.CallQuestions.{lengthsRight, kindsRight}
-use Rattle.rules.specs.Board.{boardLeast}
-use Rattle.rules.specs.Collection.{Outcome, collection}
 use Rattle.rules.specs.SheetRecords.{Sheets}
 
 -- 1, 2, 9 and 10 of the records, as they are put to their cells
@@ -19,11 +16,6 @@ pub record RightForm (A B : ℕ) (s : Sheets) : Type 0 where
   pub codes : codesKnown (readParameters (encodeParameters (s .parameters)) .steps) ≡ true
   pub lengths : lengthsRight B (encodeCall (s .call)) ≡ true
   pub kinds : kindsRight (readCall (encodeCall (s .call))) ≡ true
-
--- how the call of two sheets ends, over a board of zeros that is long enough
-abbrev pub sheetsOutcome : ℕ → ℕ → Sheets → Outcome
-sheetsOutcome A B s =
-    collection A B (encodeParameters (s .parameters)) (s .specArea) (encodeCall (s .call)) (s .callArea) (replicate (boardLeast A B) 0)
 
 -- the questions that can refuse a right input: 3 to 7, 11 to 13 and 15 to 24
 abbrev pub sheetQuestion : ℕ → Bool

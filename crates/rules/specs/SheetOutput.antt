@@ -85,13 +85,17 @@ abbrev pub outcomeText : List ℕ → List ℕ → List Parameter → List Value
 outcomeText spec call qs P N (refused n d) = refusalText n (detailText spec call d)
 outcomeText spec call qs P N (accepted c board) = acceptedText spec call qs P N c
 
--- how two records end, printed
+-- how the call of two records ends, over a board of zeros that is long enough
+abbrev pub sheetsOutcome : ℕ → ℕ → Sheets → Outcome
+sheetsOutcome A B s =
+    collection A B (encodeParameters (s .parameters)) (s .specArea) (encodeCall (s .call)) (s .callArea) (replicate (boardLeast A B) 0)
+
+-- that, printed
 unfoldable pub sheetsText : ℕ → ℕ → Sheets → List ℕ
 sheetsText A B s =
     let qs : List Parameter = parametersOf (s .specArea) (s .parameters) in
     let c : Call = callIn (s .callArea) (s .call) in
-    outcomeText (s .specArea) (s .callArea) qs (positionalsOf c) (namedOf c)
-    (collection A B (encodeParameters (s .parameters)) (s .specArea) (encodeCall (s .call)) (s .callArea) (replicate (boardLeast A B) 0))
+    outcomeText (s .specArea) (s .callArea) qs (positionalsOf c) (namedOf c) (sheetsOutcome A B s)
 
 -- a bad line is refused by its number, with the line as detail
 abbrev pub verdictText : ℕ → ℕ → List ℕ → Verdict → List ℕ
