@@ -10,15 +10,15 @@ use native.Mathlib.Omega.{arith}
 use borrow.Author.Tests.{lt-ltb, leb-true, le-leb}
 use lib.Dec.{leb, ltb, eqb}
 use lib.ListN.{length, length-append, drop}
-use Rattle.rules.specs.Listing.{tally, firstFrom}
+use Rattle.rules.specs.Listing.{firstFrom}
 use Rattle.rules.specs.Cells.{readEach}
 use Rattle.rules.specs.Answer.{Answer, fine, refuse, _then_, ask, Detail}
 use Rattle.rules.specs.ParameterRecord.{Step, stepWidth, readStep, parameterLength, stepCount, readParameters}
-use Rattle.rules.specs.Parameters.{Style, posOnly, posOrNamed, namedOnly, noMore, comesBefore, rank, plain, takesPosition, isArgs, isKwargs, Parameter, positional, positionalOnly, positionalCount, positionalOnlyCount, argsIndex, kwargsIndex, Act, adds, slash, bareStar, unknownCode, act, mayStand, nextStyle, added, addedFrom, parametersOf}
+use Rattle.rules.specs.Parameters.{Style, posOnly, comesBefore, isArgs, isKwargs, Parameter, positional, positionalOnly, positionalCount, positionalOnlyCount, argsIndex, kwargsIndex, Act, adds, slash, bareStar, unknownCode, act, mayStand, nextStyle, added, addedFrom, parametersOf}
 use Rattle.rules.specs.ParameterQuestions.{wholeSteps, codesKnown, namesInside, defaultsRight, hasRoom, nameIsNew, askStep, askSteps, countsAgree, listOf, askParameters}
 use Rattle.rules.proofs.LawsListing.{and-left, and-right, map-map}
 use Rattle.rules.proofs.LawsAnswer.{then-left, ask-true, fine-refuse}
-use Rattle.rules.proofs.LawsParameters.{steps-fine}
+use Rattle.rules.proofs.LawsParameters.{steps-fine, counts-agree}
 use Rattle.original.specs.Spec.{isSome, ParametersSpec, specOf}
 use Rattle.original.specs.Builder.{next, indexToU32, withCapacity, finish, takeStep, takeSteps, built, finishedOf, askWhole, unlessRefused, BuiltOriginal}
 use Rattle.original.proofs.LawsSpec.{positional-within}
@@ -84,22 +84,8 @@ module _ (area : List ℕ) where
 
 -- no more parameters are positional-only than positional
 only-below : (qs : List Parameter) → positionalOnlyCount qs ≤ positionalCount qs
-unfolding positionalOnlyCount positionalCount positionalOnly positional comesBefore
-only-below [] = omega arith
-only-below (q ∷ qs) = go (plain (q .kind)) (q .style) (only-below qs)
-  where
-    go : (p : Bool) (s : Style) → tally positionalOnly qs ≤ tally positional qs
-        → cond (p && ltb (rank s) 1) (suc (tally positionalOnly qs)) (tally positionalOnly qs) ≤ cond (p && takesPosition s) (suc (tally positional qs)) (tally positional qs)
-    go false s h = h
-    go true posOnly h = omega arith
-    go true posOrNamed h = omega arith
-    go true namedOnly h = h
-    go true noMore h = h
-
--- so question 8 refuses no list
-counts-agree : (qs : List Parameter) → countsAgree qs ≡ true
 unfolding countsAgree
-counts-agree qs = le-leb (positionalOnlyCount qs) (positionalCount qs) (only-below qs)
+only-below qs = leb-true (positionalOnlyCount qs) (positionalCount qs) (counts-agree qs)
 
 first-within : {X : Type 0} (f : X → Bool) (i : ℕ) (xs : List X) (k : ℕ) → firstFrom f i xs ≡ some k → k < i + length xs
 first-within f i [] k e = let z : _≡_ {A = ℕ} 0 1 = cc in absurd (omega arith)

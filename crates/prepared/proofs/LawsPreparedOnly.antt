@@ -21,10 +21,11 @@ use Rattle.rules.specs.ParameterQuestions.{wholeSteps, isCode, codesKnown, step
 use Rattle.rules.specs.Passed.{namesApart}
 use Rattle.rules.specs.Collection.{collection}
 use Rattle.rules.proofs.LawsListing.{and-left, and-right, and-both}
+use Rattle.rules.proofs.LawsParameters.{counts-agree}
 use Rattle.rules.proofs.LawsRecord.{length-writeEach, stepCells-wide, readParameters-encodeParameters}
 use Rattle.prepared.specs.Prepared.{Row, rowWidth, rowCells, readRow, frontWidth, preparedLength, preparedCells, preparedFrom, rowsIn, parameterOfRow, listIn, addsOne, rowsRight, isPrepared, boundPrepared}
 use Rattle.prepared.proofs.LawsPrepared.{length-prepared, prepared-is, prepared-collects}
-use Rattle.prepared.proofs.LawsRowSteps.{rows-back, stepsFrom, steps-few, steps-all, steps-add, steps-asked, counts-agree}
+use Rattle.prepared.proofs.LawsRowSteps.{rows-back, stepsFrom, steps-few, steps-all, steps-add, steps-asked}
 
 -- ---- the cells written again
 

@@ -8,15 +8,15 @@ use Prim.Native.Nat.{ℕ, zero, suc, _+_, _-_, _≤_, _<_}
 use native.Mathlib.Omega.{arith}
 use lib.Dec.{eqb, leb, ltb}
 use lib.ListN.{length, length-append}
-use borrow.Author.Tests.{eqb-true, ltb-true, leb-true, le-leb}
-use Rattle.rules.specs.Listing.{all, tally}
+use borrow.Author.Tests.{eqb-true, ltb-true, leb-true}
+use Rattle.rules.specs.Listing.{all}
 use Rattle.rules.specs.Text.{bytesAt, textIn}
 use Rattle.rules.specs.Value.{noValue}
 use Rattle.rules.specs.Answer.{fine}
 use Rattle.rules.specs.ParameterRecord.{Step}
-use Rattle.rules.specs.Parameters.{Style, posOnly, posOrNamed, namedOnly, noMore, Act, adds, slash, bareStar, unknownCode, act, comesBefore, mayStand, nextStyle, rank, Parameter, plain, takesPosition, positional, nameable, positionalOnly, added, addedFrom, positionalOnlyCount, positionalCount}
+use Rattle.rules.specs.Parameters.{Style, posOnly, posOrNamed, namedOnly, noMore, Act, adds, slash, bareStar, unknownCode, act, comesBefore, mayStand, nextStyle, rank, Parameter, nameable, added, addedFrom}
 use Rattle.rules.specs.Lookup.{known}
-use Rattle.rules.specs.ParameterQuestions.{stepName, usesRight, askStep, askSteps, countsAgree}
+use Rattle.rules.specs.ParameterQuestions.{stepName, usesRight, askStep, askSteps}
 use Rattle.rules.specs.Passed.{namesApart}
 use Rattle.rules.proofs.LawsListing.{and-left, and-right, and-both, all-append}
 use Rattle.rules.proofs.LawsAnswer.{then-fine}
@@ -276,29 +276,3 @@ module _ (area : List ℕ) where
 
       new : Bool
       new = not (nameable q) || not (known before (q .name .bytes))
-
--- 8 holds of every list: what is positional-only is positional
-only-positional : (q : Parameter) → positionalOnly q ≡ true → positional q ≡ true
-unfolding positionalOnly positional comesBefore
-only-positional q e = go (plain (q .kind)) (q .style) e
-  where
-    go : (p : Bool) (s : Style) → (p && ltb (rank s) 1) ≡ true → (p && takesPosition s) ≡ true
-    go true posOnly f = refl
-    go true posOrNamed f = refl
-    go true namedOnly f = f
-    go true noMore f = f
-    go false s f = f
-
-tally-fewer : {X : Type 0} (f g : X → Bool) → ((x : X) → f x ≡ true → g x ≡ true) → (xs : List X) → tally f xs ≤ tally g xs
-tally-fewer f g h [] = omega arith
-tally-fewer f g h (x ∷ xs) = go (f x) (g x) (h x) (tally-fewer f g h xs)
-  where
-    go : (a b : Bool) → (a ≡ true → b ≡ true) → tally f xs ≤ tally g xs → cond a (suc (tally f xs)) (tally f xs) ≤ cond b (suc (tally g xs)) (tally g xs)
-    go true true i n = omega arith
-    go true false i n = absurd (false≢true (i refl))
-    go false true i n = omega arith
-    go false false i n = n
-
-pub counts-agree : (qs : List Parameter) → countsAgree qs ≡ true
-unfolding countsAgree positionalOnlyCount positionalCount
-counts-agree qs = le-leb (tally positionalOnly qs) (tally positional qs) (tally-fewer positionalOnly positional only-positional qs)
