@@ -20,7 +20,7 @@ ghost use Rattle.calls.specs.Head.{headOf, Few};
 ghost use Rattle.questions.specs.Judge.{lostTo, missingAs, firstOf, starAs, repeatsAs, requiredAs, surplusAs, unknownAs, placedAs, PlacedReady};
 ghost use Rattle.builder.specs.Spec.{indexOf};
 
-// Nothing against the call, and how many pairs the named remainder has; or the refusal.
+// Nothing against the call, and how many pairs the named remainder has so far; or the refusal.
 pub enum Judged {
     Fine(usize),
     Refused(Collected),
