@@ -82,7 +82,8 @@ isRefusal (MissingNamedOnly name) = true
 isRefusal (ExtraPositionalArg n) = true
 isRefusal (ExtraNamedArg n name) = true
 
--- what is said of the name in an answer's detail, by its payload and the area where it stands (01, the questions: the spec area for 16 and 20 to 22, the call area for 19 and 24); `unnamed` where no name goes with the answer
+-- what is said of the name in an answer's detail, by its payload and the area where it stands (01, the questions: the spec area for 16 and
+-- 20 to 22, the call area for 19 and 24); `unnamed` where no name goes with the answer
 abbrev pub ofName : {X : Type 0} → X → (ℕ → X) → (ℕ → X) → Collected → X
 ofName unnamed inSpec inCall (Accepted c) = unnamed
 ofName unnamed inSpec inCall (Record n) = unnamed

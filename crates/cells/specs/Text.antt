@@ -22,7 +22,8 @@ readText least area payload = cond (isText least area payload) (Is (textOf paylo
 unfoldable pub partAt : List ℕ → ℕ → List ℕ
 partAt area payload = cond (inside area payload) (bytesAt area payload) []
 
--- where they begin in a lent area, as a block of memory and the number of a byte in it: as many bytes behind the area's own place as the payload's start says; at the area's own place where the payload does not lie inside
+-- where they begin in a lent area, as a block of memory and the number of a byte in it: as many bytes behind the area's own place as the
+-- payload's start says; at the area's own place where the payload does not lie inside
 unfoldable pub placeAt : RefT (List ℕ) → ℕ → ℕ × ℕ
 placeAt area payload = cond (inside (now area) payload) (area .ptr .0, startOf payload + area .ptr .1) (area .ptr)
 

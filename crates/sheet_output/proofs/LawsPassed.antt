@@ -1,6 +1,7 @@
 -- Records that pass their questions can be printed, and what is printed of them fits (01, sheets and the questions): a call that passes 9 to 13
--- (`positionals-printable`, `named-printable`), how many values it has (`positionals-few`, `named-few`), how long any outcome's text is (`output-fits`; `collected-fits` for what collection comes to), and that what
--- collection answers is ready to be printed (`collected-ready`, `collected-room`). Assumes nothing.
+-- (`positionals-printable`, `named-printable`), how many values it has (`positionals-few`, `named-few`), how long any outcome's text is
+-- (`output-fits`; `collected-fits` for what collection comes to), and that what collection answers is ready to be printed (`collected-ready`,
+-- `collected-room`). Assumes nothing.
 use mathlib.Core.Path.{_≡_, refl, sym, ap, _∙_}
 use mathlib.Core.Bool.{Bool, true, false, cond, not, _&&_, _||_}
 use mathlib.Core.List.{List, [], _∷_, _++_, map}
