@@ -21,7 +21,7 @@ use Rattle.rules.specs.Binding.{starPasses, doublePasses}
 use Rattle.rules.specs.Collection.{callOf}
 use Rattle.rules.specs.Accessors.{denied, gives, accessOf, askWriting, len}
 use Rattle.rules.proofs.LawsAnswer.{then-left, then-right, ask-true}
-use Rattle.rules.proofs.LawsNumbers.{refusesIn, then-in, ask-in, number-in, wider-in, call-in}
+use Rattle.rules.proofs.LawsNumbers.{numberIn, refusesIn, then-by, ask-by, number-by, wider-in, call-in}
 use Rattle.calls.proofs.LawsNamed.{passed-star, passed-double}
 use Rattle.accessors.specs.Answer.{isNumbered, accessIn, ofName, Accessing}
 use Rattle.accessors.specs.declared.answer.Accessed.{Accessed}
@@ -43,18 +43,18 @@ module _ (asked : Answer) (k : ℕ) (written before : List ℕ) where
 -- what 9 to 13 refuse with
 pub call-numbered : (cells area : List ℕ) (n : ℕ) → askCall 64 cells area ≡ refuse n none → isNumbered (Record n) ≡ true
 call-numbered cells area n e =
-    ap (λ b. b || eqb n 25) (number-in 9 14 (askCall 64 cells area) n none (wider-in 9 13 9 14 (askCall 64 cells area) (omega arith) (omega arith) (call-in 64 cells area)) e)
+    ap (λ b. b || eqb n 25) (number-by (numberIn 9 14) (askCall 64 cells area) n none (wider-in 9 13 9 14 (askCall 64 cells area) (omega arith) (omega arith) (call-in 64 cells area)) e)
 
 module _ (cells area out : List ℕ) where
   -- and what 9 to 14 do
   writing-in : refusesIn 9 14 (askWriting 64 64 cells area out) ≡ true
   unfolding askWriting askBoard
   writing-in =
-      then-in 9 14 (askCall 64 cells area) (askBoard 64 64 out) (wider-in 9 13 9 14 (askCall 64 cells area) (omega arith) (omega arith) (call-in 64 cells area))
-      (ask-in 9 14 14 (leb (boardLeast 64 64) (length out)) refl)
+      then-by (numberIn 9 14) (askCall 64 cells area) (askBoard 64 64 out) (wider-in 9 13 9 14 (askCall 64 cells area) (omega arith) (omega arith) (call-in 64 cells area))
+      (ask-by (numberIn 9 14) 14 (leb (boardLeast 64 64) (length out)) refl)
 
   pub writing-numbered : (n : ℕ) → askWriting 64 64 cells area out ≡ refuse n none → isNumbered (Record n) ≡ true
-  writing-numbered n e = ap (λ b. b || eqb n 25) (number-in 9 14 (askWriting 64 64 cells area out) n none writing-in e)
+  writing-numbered n e = ap (λ b. b || eqb n 25) (number-by (numberIn 9 14) (askWriting 64 64 cells area out) n none writing-in e)
 
   output-asked : askBoard 64 64 out ≡ ask 14 (leb 896 (length out))
   unfolding askBoard

@@ -1,6 +1,6 @@
 -- 01's number and detail for each answer of collection, which numbers an answer can have, and the bytes of the name in a detail and where they
 -- lie.
-use mathlib.Core.Bool.{Bool, true, false, _&&_}
+use mathlib.Core.Bool.{Bool, true, false, _&&_, _||_}
 use mathlib.Core.List.{List, []}
 use Prim.Native.Nat.{ℕ}
 use lib.Dec.{leb}
@@ -21,11 +21,11 @@ placeOf area payload = record { area = area; start = startOf payload; size = siz
 abbrev pub countsOf : Counts → placement.Counts
 countsOf c = record { taken = c .taken; defaulted = c .defaulted; star = c .star; named = c .named }
 
--- a question about a record or the board has a number from 1 to 14: those from 15 on have answers of their own, so that no outcome is told
--- by two answers
+-- a question about a record or the board has a number from 1 to 7 or from 9 to 14 (8 is retired: 02, §8): those from 15 on have answers of
+-- their own, so that no outcome is told by two answers
 abbrev pub isNumbered : Collected → Bool
 isNumbered (Accepted c) = true
-isNumbered (Record n) = leb 1 n && leb n 14
+isNumbered (Record n) = leb 1 n && leb n 7 || leb 9 n && leb n 14
 isNumbered ArgsArrayIsNotIterable = true
 isNumbered (RepeatedParameter name) = true
 isNumbered KwArgsIsNotDict = true

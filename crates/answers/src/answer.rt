@@ -11,7 +11,7 @@ pub struct Counts {
 // A name is the payload of a text: in the spec area at 16 and 20 to 22, in the call area at 19 and 24.
 pub enum Collected {
     Accepted(Counts),
-    // 1 to 14: a question about a record or the board, by its number
+    // 1 to 7 and 9 to 14: a question about a record or the board, by its number
     Record(u64),
     // 15
     ArgsArrayIsNotIterable,

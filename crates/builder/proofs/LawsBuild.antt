@@ -1,5 +1,5 @@
 -- Laws of building a list: what the steps have left to ask and to add from step i on, at the start, after a step that is taken, at one that
--- is refused and at the end; then questions 1 to 8 one after the other. Assumes nothing.
+-- is refused and at the end; then questions 1 to 7 one after the other. Assumes nothing.
 use mathlib.Core.Path.{_≡_, refl, sym, ap, _∙_}
 use mathlib.Core.Bool.{true, false}
 use mathlib.Core.List.{List, [], _++_, append-assoc, append-nil}
@@ -8,19 +8,20 @@ use native.Mathlib.Nat.{sub-zero}
 use Rattle.rules.specs.Answer.{fine, refuse, _then_, none as noDetail}
 use Rattle.rules.specs.ParameterRecord.{Step as RecordStep, stepCount, readParameters}
 use Rattle.rules.specs.Parameters.{posOnly, act, nextStyle, added, addedFrom, parametersOf}
-use Rattle.rules.specs.ParameterQuestions.{wholeSteps, codesKnown, namesInside, defaultsRight, askSteps, countsAgree, listOf, askParameters}
+use Rattle.rules.specs.ParameterQuestions.{wholeSteps, codesKnown, namesInside, defaultsRight, askSteps, listOf, askParameters}
 use Rattle.cells.specs.declared.answer.Answer.the-variants.{Fine, Refused}
 use Rattle.builder.specs.declared.spec.ParametersSpecBuilder.{ParametersSpecBuilder}
 use Rattle.builder.specs.declared.spec.Stepped.{Stepped}
-use Rattle.builder.specs.declared.spec.Finished.{Finished}
+use Rattle.builder.specs.declared.spec.ParametersSpec.{ParametersSpec}
+use Rattle.builder.specs.declared.Finished.{Finished}
 use Rattle.cells.specs.Listed.{listed}
 use Rattle.builder.specs.Record.{stepAt}
 use Rattle.cells.specs.Answer.{answerOf}
-use Rattle.builder.specs.Spec.{Built, Empty, Stepping, Finishing, NoList, styleIn, listIn, finished}
-use Rattle.builder.specs.Build.{Taking, IsList, Building}
+use Rattle.builder.specs.Spec.{Built, Empty, Stepping, styleIn, listIn, finished}
+use Rattle.builder.specs.Build.{Taking, IsList, NoList, Building}
 use Rattle.cells.proofs.LawsListed.{listed-next, listed-end}
 use Rattle.builder.proofs.LawsRecord.{steps-listed}
-use Rattle.builder.proofs.LawsSpec.{never-fine}
+use Rattle.builder.proofs.LawsSpec.{never-fine, never-refused}
 
 -- ---- the steps, one after the other
 
@@ -80,7 +81,7 @@ module _ (cells area : List ℕ) (m : ℕ) where
           built = s .built (left .built);
         }
 
--- ---- questions 1 to 8
+-- ---- questions 1 to 7
 
 module _ (cells area : List ℕ) where
   pub refused-list : (n : ℕ) (r : Finished) → NoList n r → refuse n noDetail ≡ askParameters 64 cells area → Building cells area r
@@ -116,26 +117,13 @@ module _ (cells area : List ℕ) where
           ask-5 n e = sym (rw (one, two, three, four, ← taking .answer, e))
 
           -- the list of the last state
-          pub ask-8 : (r : Finished) → t .answer ≡ Fine → Finishing (t .builder) r → Building cells area r
-          unfolding askParameters countsAgree
-          ask-8 r e end =
+          pub all-passed : (l : ParametersSpec) → t .answer ≡ Fine → l ≡ finished (t .builder) → Building cells area (record { answer = Fine; list = l })
+          unfolding askParameters
+          all-passed l e is =
               record {
-                answer =
-                    end .answer
-                    ∙ sym
-                    (rw (
-                      one,
-                      two,
-                      three,
-                      four,
-                      ← taking .answer,
-                      e,
-                      ← taking .list e,
-                      ← taking .built .positionalOnly,
-                      ← taking .built .positional,
-                    ));
-                fine = λ f. rw (end .fine f, ← taking .list e) is-list;
-                refused = end .refused;
+                answer = sym (rw (one, two, three, four, ← taking .answer, e));
+                fine = λ f. rw (is, ← taking .list e) is-list;
+                refused = λ n f. never-refused n f;
               }
             where
               is-list : IsList area (finished (t .builder)) (listIn area (t .builder))

@@ -28,6 +28,7 @@ use Rattle.builder.specs.declared.spec.ParametersSpecBuilder.{Parameters
 use Rattle.builder.specs.Params.{styleOf, kindFor, stepOf, parametersIn, parameterOf, newIn, askAdding}
 use Rattle.builder.specs.Spec.{SoFar, Built, Longer, Stepping, refusedBy, underStyle, styleIn, paramsOf, listIn, indexOf}
 use Rattle.builder.proofs.params.CurrentParameterStyle.{the-type}
+use Rattle.rules.proofs.LawsCounts.{step-within}
 use Rattle.cells.proofs.LawsListed.{length-listed, tally-snoc, first-snoc, orFirst}
 use Rattle.builder.proofs.LawsCodes.{mayStand-star, code-8}
 use Rattle.builder.proofs.LawsParams.{Room, stored, stored-list, styleFor-rank, known-columns}
@@ -93,6 +94,7 @@ module _ (area : List ℕ) (b : ParametersSpecBuilder) (t : RecordStep) where
         room = h .room;
         positionalOnly = h .positionalOnly;
         positional = h .positional;
+        within = h .within;
         args = h .args;
         kwargs = h .kwargs;
         sofar = sofar (h .sofar);
@@ -191,10 +193,13 @@ module _
         → Built area b'
     unfolding positionalOnlyCount positionalCount argsIndex kwargsIndex
     built-newest h only all star double sofar built =
+        let only-counts : b' .«positional_only» ≡ positionalOnlyCount (listIn area b') = only ∙ rw (list-newest, tally-snoc, ← built .positionalOnly) in
+        let all-counts : b' .positional ≡ positionalCount (listIn area b') = all ∙ rw (list-newest, tally-snoc, ← built .positional) in
         record {
           room = rw (p .len) (omega arith);
-          positionalOnly = only ∙ rw (list-newest, tally-snoc, ← built .positionalOnly);
-          positional = all ∙ rw (list-newest, tally-snoc, ← built .positional);
+          positionalOnly = only-counts;
+          positional = all-counts;
+          within = rw (only-counts, all-counts, list-newest) (step-within area (listIn area b) (styleIn b) (adds k) (s .name) (rw (← built .positionalOnly, ← built .positional) (built .within)));
           args = star ∙ rw (list-newest, first-snoc, ← built .args, length-parametersIn, zero-add);
           kwargs = double ∙ rw (list-newest, first-snoc, ← built .kwargs, length-parametersIn, zero-add);
           sofar = sofar;

@@ -1,4 +1,4 @@
--- What building a list from a parameter record promises (01, questions 1 to 8).
+-- What building a list from a parameter record promises (01, questions 1 to 7).
 use mathlib.Core.List.{List, []}
 use mathlib.Core.Path.{_≡_}
 use Prim.Native.Nat.{ℕ, _≤_}
@@ -11,7 +11,7 @@ use Rattle.builder.specs.Spec.{indexOf, listIn, Built, emptyList}
 use Rattle.cells.specs.declared.answer.Answer.the-variants.{Fine, Refused}
 use Rattle.builder.specs.declared.spec.Stepped.{Stepped}
 use Rattle.builder.specs.declared.spec.ParametersSpec.{ParametersSpec}
-use Rattle.builder.specs.declared.spec.Finished.{Finished}
+use Rattle.builder.specs.declared.Finished.{Finished}
 
 -- the steps of a record: the first "no" of questions 5 to 7, or all the parameters that they add
 pub record Taking (cells area : List ℕ) (r : Stepped) : Type 0 where
@@ -29,7 +29,12 @@ pub record IsList (area : List ℕ) (l : ParametersSpec) (qs : List Parameter) :
   pub args : indexOf (l .indices .args) ≡ argsIndex qs
   pub kwargs : indexOf (l .indices .kwargs) ≡ kwargsIndex qs
 
--- the first "no" of questions 1 to 8, or the list that the record describes; a refused list is the one without a parameter
+-- a list that is refused is the one without a parameter
+pub record NoList (n : ℕ) (r : Finished) : Type 0 where
+  pub answer : r .answer ≡ Refused n
+  pub list : r .list ≡ emptyList
+
+-- the first "no" of questions 1 to 7, or the list that the record describes; a refused list is the one without a parameter
 pub record Building (cells area : List ℕ) (r : Finished) : Type 0 where
   pub answer : answerOf (r .answer) ≡ askParameters 64 cells area
   pub fine : r .answer ≡ Fine → IsList area (r .list) (listOf cells area)

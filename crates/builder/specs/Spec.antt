@@ -1,10 +1,8 @@
--- What a step of the builder and its end promise (01, on the parameter list, and questions 5 to 8), for every state of the builder.
+-- What a step of the builder and its end promise (01, on the parameter list, and questions 5 to 7), for every state of the builder.
 use mathlib.Core.List.{List, [], _∷_, _++_}
 use mathlib.Core.Option.{Option, none, some}
 use mathlib.Core.Path.{_≡_}
 use Prim.Native.Nat.{ℕ, _+_, _≤_}
-use lib.Dec.{leb}
-use Rattle.rules.specs.Answer.{ask}
 use Rattle.rules.specs.Text.{textIn}
 use Rattle.rules.specs.ParameterRecord.{Step as RecordStep}
 use Rattle.rules.specs.Parameters.{Style, posOnly, posOrNamed, namedOnly, noMore, Parameter, act, nextStyle, added, positionalOnlyCount, positionalCount, argsIndex, kwargsIndex}
@@ -20,7 +18,6 @@ use Rattle.cells.specs.declared.answer.Answer.the-variants.{Fine, Refused}
 use Rattle.builder.specs.declared.spec.ParametersSpecBuilder.{ParametersSpecBuilder}
 use Rattle.builder.specs.declared.spec.Stepped.{Stepped}
 use Rattle.builder.specs.declared.spec.ParametersSpec.{ParametersSpec}
-use Rattle.builder.specs.declared.spec.Finished.{Finished}
 
 abbrev pub indexOf : Index → Option ℕ
 indexOf (At i) = some i
@@ -86,11 +83,13 @@ SoFar posOrNamed b = (b .positional ≡ b .len) × (b .args ≡ Absent) × (b .k
 SoFar namedOnly b = b .kwargs ≡ Absent
 SoFar noMore b = Unit
 
--- the state is one that steps lead to: its counts and indices are those of its list
+-- the state is one that steps lead to: its counts and indices are those of its list, and no more parameters are positional-only than
+-- positional (02, §8)
 pub record Built (area : List ℕ) (b : ParametersSpecBuilder) : Type 0 where
   pub room : b .len ≤ 64
   pub positionalOnly : b .«positional_only» ≡ positionalOnlyCount (listIn area b)
   pub positional : b .positional ≡ positionalCount (listIn area b)
+  pub within : b .«positional_only» ≤ b .positional
   pub args : indexOf (b .args) ≡ argsIndex (listIn area b)
   pub kwargs : indexOf (b .kwargs) ≡ kwargsIndex (listIn area b)
   pub sofar : SoFar (styleIn b) b
@@ -135,11 +134,6 @@ abbrev pub emptyList : ParametersSpec
 emptyList =
     record { params = noParameters; indices = record { «num_positional_only» = 0; «num_positional» = 0; args = Absent; kwargs = Absent } }
 
--- a list that is refused is that one
-pub record NoList (n : ℕ) (r : Finished) : Type 0 where
-  pub answer : r .answer ≡ Refused n
-  pub list : r .list ≡ emptyList
-
 -- the list of a state, with its counts and indices
 abbrev pub finished : ParametersSpecBuilder → ParametersSpec
 finished b =
@@ -153,9 +147,3 @@ finished b =
             kwargs = b .kwargs;
           };
     }
-
--- the end: question 8, and the list, or the one without a parameter
-pub record Finishing (b : ParametersSpecBuilder) (r : Finished) : Type 0 where
-  pub answer : answerOf (r .answer) ≡ ask 8 (leb (b .«positional_only») (b .positional))
-  pub fine : r .answer ≡ Fine → r .list ≡ finished b
-  pub refused : (n : ℕ) → r .answer ≡ Refused n → r .list ≡ emptyList

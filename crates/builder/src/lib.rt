@@ -1,4 +1,4 @@
-// The parameter list (01, on `ParametersSpecBuilder`): from a parameter record to the finished list, questions 1 to 8.
+// The parameter list (01, on `ParametersSpecBuilder`): from a parameter record to the finished list, questions 1 to 7.
 // Reworked from starlark 0.14.2, src/eval/runtime/params/spec.rs, Apache-2.0.
 use cells::answer::Answer;
 use record::codes_known;
@@ -7,37 +7,55 @@ use record::names_inside;
 use record::step_at;
 use record::step_count;
 use record::whole_steps;
-use spec::Finished;
 use spec::ParametersSpec;
 use spec::ParametersSpecBuilder;
 use spec::Stepped;
-ghost use Rattle.builder.specs.Build.{Building, Taking};
+ghost use Rattle.builder.specs.Build.{NoList, Building, Taking};
 
 pub mod params;
 pub mod record;
 pub mod spec;
 
-// The list that a parameter record describes: 1 to 4 are each put to the whole record, 5 to 7 step by step, 8 at the end.
+// What 1 to 7 answer, and the list; the one without a parameter where they refuse.
+pub struct Finished {
+    pub answer: Answer,
+    pub list: ParametersSpec,
+}
+
+// The list that a parameter record describes: 1 to 4 are each put to the whole record, 5 to 7 step by step.
 pub fn build(cells: &[u64], area: &[u8]) -> Finished
     ensures { λ r. ⌜ Building (now (cells .entry)) (now (area .entry)) r ⌝ }
 {
     if !whole_steps(cells) {
-        return ParametersSpec::refused(1);
+        return refused(1);
     }
     if !codes_known(cells) {
-        return ParametersSpec::refused(2);
+        return refused(2);
     }
     if !names_inside(cells, area) {
-        return ParametersSpec::refused(3);
+        return refused(3);
     }
     if !defaults_right(cells, area) {
-        return ParametersSpec::refused(4);
+        return refused(4);
     }
     let taken = take_steps(cells, area);
     let answer = taken.answer;
     match answer {
-        Answer::Refused(question) => ParametersSpec::refused(question),
-        Answer::Fine => taken.builder.finish(),
+        Answer::Refused(question) => refused(question),
+        Answer::Fine => Finished {
+            answer: Answer::Fine,
+            list: taken.builder.finish(),
+        },
+    }
+}
+
+// No list, and the question's number.
+fn refused(question: u64) -> Finished
+    ensures { λ r. ⌜ NoList question r ⌝ }
+{
+    Finished {
+        answer: Answer::Refused(question),
+        list: ParametersSpec::empty(),
     }
 }
 

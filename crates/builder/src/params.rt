@@ -73,10 +73,11 @@ impl CurrentParameterStyle {
         requires { ⌜ i < 64 ⌝ }
         ensures { λ r. ⌜ r ≡ cond (comesBefore (styleOf self) posOrNamed) (i + 1) count ⌝ }
     {
+        let with_it = i + 1;
         match self {
-            CurrentParameterStyle::PosOnly => i + 1,
+            CurrentParameterStyle::PosOnly => with_it,
             CurrentParameterStyle::PosOrNamed => count,
-            CurrentParameterStyle::NamedOnly => count,
+            CurrentParameterStyle::NamedOnly => count, // as many as before
             CurrentParameterStyle::NoMore => count,
         }
     }
@@ -86,9 +87,10 @@ impl CurrentParameterStyle {
         requires { ⌜ i < 64 ⌝ }
         ensures { λ r. ⌜ r ≡ cond (takesPosition (styleOf self)) (i + 1) count ⌝ }
     {
+        let with_it = i + 1;
         match self {
-            CurrentParameterStyle::PosOnly => i + 1,
-            CurrentParameterStyle::PosOrNamed => i + 1,
+            CurrentParameterStyle::PosOnly => with_it,
+            CurrentParameterStyle::PosOrNamed => with_it,
             CurrentParameterStyle::NamedOnly => count,
             CurrentParameterStyle::NoMore => count,
         }

@@ -14,7 +14,7 @@ ghost use Rattle.rules.specs.ParameterRecord.{Step as RecordStep};
 ghost use Rattle.rules.specs.Parameters.{act, slash, bareStar, comesBefore, posOnly, noMore, namedOnly};
 ghost use Rattle.cells.specs.Answer.{answerOf};
 ghost use Rattle.builder.specs.Params.{styleOf, stepOf, askAdding};
-ghost use Rattle.builder.specs.Spec.{styleIn, Empty, emptyList, NoList, Pushed, Stepping, Finishing, refusedBy, withStyle, underStyle};
+ghost use Rattle.builder.specs.Spec.{styleIn, Empty, emptyList, Pushed, Stepping, refusedBy, withStyle, underStyle, finished};
 
 // A parameter's index, where there is such a parameter.
 pub enum Index {
@@ -59,12 +59,6 @@ pub struct ParametersSpec {
     pub indices: DefParamIndices,
 }
 
-// What question 8 answers, and the list; the one without a parameter where it is refused.
-pub struct Finished {
-    pub answer: Answer,
-    pub list: ParametersSpec,
-}
-
 impl ParametersSpec {
     pub fn empty() -> Self
         ensures { λ r. ⌜ r ≡ emptyList ⌝ }
@@ -77,16 +71,6 @@ impl ParametersSpec {
                 args: Index::Absent,
                 kwargs: Index::Absent,
             },
-        }
-    }
-
-    // No list, and the question's number.
-    pub(crate) fn refused(question: u64) -> Finished
-        ensures { λ r. ⌜ NoList question r ⌝ }
-    {
-        Finished {
-            answer: Answer::Refused(question),
-            list: Self::empty(),
         }
     }
 }
@@ -289,13 +273,11 @@ impl ParametersSpecBuilder {
         pushed.with(CurrentParameterStyle::NoMore, args, Index::At(index))
     }
 
-    // The finished list; 8 is asked here.
-    pub fn finish(self) -> Finished
-        ensures { λ r. ⌜ Finishing self r ⌝ }
+    // The finished list. The Rust asserts here that `positional_only` is at most `positional`; every step keeps that (`Built`), so nothing is
+    // asked (02, §8).
+    pub fn finish(self) -> ParametersSpec
+        ensures { λ r. ⌜ r ≡ finished self ⌝ }
     {
-        if self.positional < self.positional_only {
-            return ParametersSpec::refused(8);
-        }
         let codes = self.codes;
         let styles = self.styles;
         let names = self.names;
@@ -303,23 +285,20 @@ impl ParametersSpecBuilder {
         let default_payloads = self.default_payloads;
         let args = self.args;
         let kwargs = self.kwargs;
-        Finished {
-            answer: Answer::Fine,
-            list: ParametersSpec {
-                params: Parameters {
-                    codes,
-                    styles,
-                    names,
-                    default_kinds,
-                    default_payloads,
-                    len: self.len,
-                },
-                indices: DefParamIndices {
-                    num_positional_only: self.positional_only,
-                    num_positional: self.positional,
-                    args,
-                    kwargs,
-                },
+        ParametersSpec {
+            params: Parameters {
+                codes,
+                styles,
+                names,
+                default_kinds,
+                default_payloads,
+                len: self.len,
+            },
+            indices: DefParamIndices {
+                num_positional_only: self.positional_only,
+                num_positional: self.positional,
+                args,
+                kwargs,
             },
         }
     }

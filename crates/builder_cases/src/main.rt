@@ -224,7 +224,7 @@ fn case(area: &[u8], label: &[u8], record: Record) {
     io::write_all(1, b"\n");
 }
 
-fn built(area: &[u8], record: Record) -> builder::spec::Finished {
+fn built(area: &[u8], record: Record) -> builder::Finished {
     let cells = record.cells;
     builder::build(front(&cells, record.len), area)
 }

@@ -56,7 +56,7 @@ namedAfter Unknown named = named
 
 -- ---- all the names
 
--- a call that passes 9 to 11 against a list that passes 1 to 8
+-- a call that passes 9 to 11 against a list that passes 1 to 7
 pub record FillReady (spec : List ℕ) (l : ParametersSpec) (cells area : List ℕ) (h : Head) : Type 0 where
   pub list : Prepared spec l
   pub few : Few 64 h

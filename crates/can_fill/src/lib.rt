@@ -27,7 +27,7 @@ pub enum CanFill {
     Answer(bool),
 }
 
-// The records as they are lent, of any cells and bytes: 1 to 8 are put to the list, then 9 to 11 to the call.
+// The records as they are lent, of any cells and bytes: 1 to 7 are put to the list, then 9 to 11 to the call.
 pub fn can_fill_with_args(
     spec_cells: &[u64],
     spec: &[u8],
@@ -50,7 +50,7 @@ pub fn can_fill_with_args(
     CanFill::Answer(can_fill(list, spec, call_cells, area, h))
 }
 
-// A call that passes 9 to 11 against a list that passes 1 to 8: surplus positionals need *args, each name a slot of its own, and a required
+// A call that passes 9 to 11 against a list that passes 1 to 7: surplus positionals need *args, each name a slot of its own, and a required
 // slot a position or a name.
 fn can_fill(list: ParametersSpec, spec: &[u8], cells: &[u64], area: &[u8], h: Head) -> bool
     requires { ⌜ FillReady (now spec) list (now cells) (now area) (headOf h) ⌝ }

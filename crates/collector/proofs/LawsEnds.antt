@@ -23,7 +23,7 @@ use Rattle.rules.specs.Binding.{askBinding}
 use Rattle.rules.specs.Collection.{accepted, outcomeOf, callOf, askRecords, collection}
 use Rattle.rules.proofs.LawsListing.{and-left, and-right}
 use Rattle.rules.proofs.LawsRecord.{length-writeEach}
-use Rattle.rules.proofs.LawsNumbers.{number-in, wider-in, parameters-in, call-in}
+use Rattle.rules.proofs.LawsNumbers.{number-by, wider-by, parameters-in, call-in}
 use Rattle.rules.proofs.LawsShort.{tally-most, binding-short, counts-short, written-short}
 use Rattle.cells.specs.Record.{pairAt}
 use Rattle.cells.specs.Out.{stored}
@@ -41,6 +41,7 @@ use Rattle.calls.specs.Values.{positionalAt, valuesIn}
 use Rattle.slots.specs.Board.{BoardReady, BoardWritten}
 use Rattle.questions.specs.Questions.{CallReady}
 use Rattle.collector.specs.Collect.{Ends, bindingOf, boundTo, isShort, ShortCall}
+use Rattle.answers.proofs.LawsTold.{list-numbered, call-numbered}
 use Rattle.answers.specs.declared.answer.Counts.{Counts}
 use Rattle.answers.specs.declared.answer.Collected.{Collected}
 use Rattle.answers.specs.declared.answer.Collected.the-variants.{Accepted, Record, ArgsArrayIsNotIterable, RepeatedParameter, KwArgsIsNotDict, ArgsValueIsNotString, RepeatedArg, MissingPositionalOnly, Missing, MissingNamedOnly, ExtraPositionalArg, ExtraNamedArg}
@@ -241,7 +242,7 @@ module _ (qs : List Parameter) (cells area board : List ℕ) where
   unfolding boundTo
   bound-refused n e =
       ends-refused qs (positionalsOf c) (namedOf c) board (askCall 64 cells area then askBoard 64 64 board then askBinding qs c) (Record n) refl
-      (number-in 1 14 (askCall 64 cells area) n none (wider-in 9 13 1 14 (askCall 64 cells area) (omega arith) (omega arith) (call-in 64 cells area)) e)
+      (number-by (λ k. isNumbered (Record k)) (askCall 64 cells area) n none (wider-by 9 13 (λ k. isNumbered (Record k)) (λ k l m. call-numbered k l (omega arith)) (askCall 64 cells area) (call-in 64 cells area)) e)
       (sym (ap (λ a. a then askBoard 64 64 board then askBinding qs c) e))
 
   -- what 9 to 12 refuse, and 13 after them
@@ -285,7 +286,7 @@ module _ (specCells spec cells area board : List ℕ) where
   collection-refused n e =
       ends-refused (listOf specCells spec) (positionalsOf (callOf cells area)) (namedOf (callOf cells area)) board
       ((askParameters 64 specCells spec then askCall 64 cells area then askBoard 64 64 board) then askBinding (listOf specCells spec) (callOf cells area)) (Record n) refl
-      (number-in 1 14 (askParameters 64 specCells spec) n none (wider-in 1 8 1 14 (askParameters 64 specCells spec) (omega arith) (omega arith) (parameters-in 64 specCells spec)) e)
+      (number-by (λ k. isNumbered (Record k)) (askParameters 64 specCells spec) n none (wider-by 1 7 (λ k. isNumbered (Record k)) list-numbered (askParameters 64 specCells spec) (parameters-in 64 specCells spec)) e)
       (sym (ap (λ a. (a then askCall 64 cells area then askBoard 64 64 board) then askBinding (listOf specCells spec) (callOf cells area)) e))
 
   pub collection-bound : (qs : List Parameter) → askParameters 64 specCells spec ≡ fine → qs ≡ listOf specCells spec → boundTo qs cells area board ≡ collection 64 64 specCells spec cells area board

@@ -38,7 +38,7 @@ abbrev pub sizesRight : ℕ → ℕ → Cut → Bool
 sizesRight values pairs c =
     eqb (values % 2) 0 && (eqb (pairs % 4) 0 && (leb (values / 2) 64 && (leb (pairs / 4) 64 && (leb (c .atP) (values / 2) && leb (c .atN) (pairs / 4)))))
 
--- the list passes 1 to 8, the values and pairs are well formed, no name stands twice, and the board passes 14
+-- the list passes 1 to 7, the values and pairs are well formed, no name stands twice, and the board passes 14
 unfoldable pub passing : List ℕ → List ℕ → List Value → List Pair → List ℕ → ℕ → Bool
 passing specCells specBytes P N callBytes room =
     passes (askParameters 64 specCells specBytes)

@@ -104,7 +104,7 @@ fn try_cut(
     Played::Ended(collected, filling)
 }
 
-// Questions 1 to 8 of the list, 9 to 13 of P and N written out whole, and 14 of a board with `room` cells.
+// Questions 1 to 7 of the list, 9 to 13 of P and N written out whole, and 14 of a board with `room` cells.
 fn records_pass(spec_cells: &[u64], spec: &[u8], whole: &[u64], area: &[u8], room: usize) -> bool
     ensures { λ r. ⌜ r ≡ recordsPass (now («spec_cells» .entry)) (now (spec .entry)) (now (whole .entry)) (now (area .entry)) room ⌝ }
 {

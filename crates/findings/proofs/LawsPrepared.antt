@@ -12,7 +12,7 @@ use Rattle.cells.specs.Answer.{answerOf}
 use Rattle.cells.specs.declared.answer.Answer.the-variants.{Fine}
 use Rattle.builder.specs.Params.{parametersIn}
 use Rattle.builder.specs.Build.{Building, IsList}
-use Rattle.builder.specs.declared.spec.Finished.{Finished}
+use Rattle.builder.specs.declared.Finished.{Finished}
 use Rattle.findings.specs.Resolve.{Prepared}
 
 module _ (cells area : List ℕ) (r : Finished) (built : Building cells area r) (yes-built : r .answer ≡ Fine) where

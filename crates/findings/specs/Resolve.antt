@@ -53,7 +53,7 @@ abbrev pub countAfter : Finding → ℕ → ℕ
 countAfter (At i) count = count
 countAfter Unknown count = count + 1
 
--- a list of the code that binding can lean on: it is the list that its columns are, and that list is one that passes 1 to 8
+-- a list of the code that binding can lean on: it is the list that its columns are, and that list is one that passes 1 to 7
 pub record Prepared (area : List ℕ) (l : ParametersSpec) : Type 0 where
   pub is-list : IsList area l (parametersIn area (l .params))
   pub first : positionalFirst (parametersIn area (l .params)) ≡ true

@@ -17,7 +17,7 @@ use Rattle.rules.specs.CallRecord.{encodeCall}
 use Rattle.rules.specs.SheetRecords.{sheetsIn}
 use Rattle.cells.specs.Answer.{answerOf}
 use Rattle.cells.specs.declared.answer.Answer.the-variants.{Fine, Refused}
-use Rattle.builder.specs.declared.spec.Finished.{Finished}
+use Rattle.builder.specs.declared.Finished.{Finished}
 use Rattle.builder.specs.Build.{Building}
 use Rattle.answers.specs.Answer.{told as toldOf}
 use Rattle.answers.specs.declared.answer.Collected.{Collected}

@@ -49,7 +49,7 @@ preparationAnswer (Written n) = valueAnswer n 0 0 0
 preparationAnswer (Refused n) = refusalAnswer n none
 preparationAnswer NoRoom = refusalAnswer 101 none
 
--- 1 to 8 of the record, then the room; the lent cells change only where a list is written
+-- 1 to 7 of the record, then the room; the lent cells change only where a list is written
 unfoldable pub preparingAnswer : List ℕ → List ℕ → List ℕ → List ℕ
 preparingAnswer specCells spec out =
     preparationAnswer (preparationOf (askParameters 64 specCells spec) (leb (preparedLength 64) (length out)) (length (listOf specCells spec)))
@@ -68,7 +68,7 @@ abbrev pub accessAnswer : Access → List ℕ
 accessAnswer (denied n d) = refusalAnswer n d
 accessAnswer (gives k) = valueAnswer k 0 0 0
 
--- lookup of a name in the list of a record: 1 to 8, then 1 and the index, or 0
+-- lookup of a name in the list of a record: 1 to 7, then 1 and the index, or 0
 abbrev pub findingAnswer : Finding → List ℕ
 findingAnswer (at i) = valueAnswer 1 i 0 0
 findingAnswer unknown = valueAnswer 0 0 0 0

@@ -23,7 +23,7 @@ use Rattle.cells.proofs.LawsListed.{length-listed, all-at, getD-listed}
 use Rattle.rules.proofs.LawsParameters.{list-nameInside}
 use Rattle.builder.specs.declared.params.Parameters.{Parameters}
 use Rattle.cells.specs.declared.answer.Answer.the-variants.{Fine}
-use Rattle.builder.specs.declared.spec.Finished.{Finished}
+use Rattle.builder.specs.declared.Finished.{Finished}
 use Rattle.cells.specs.Listed.{listed}
 use Rattle.builder.specs.Params.{mayBeNamed, parameterOf, parameterAt, parametersIn}
 use Rattle.cells.specs.Answer.{answerOf}

@@ -8,19 +8,20 @@ use mathlib.Core.Option.{Option, none, some}
 use Prim.Native.Nat.{ℕ, zero, suc, _+_, _≤_, _<_}
 use native.Mathlib.Omega.{arith}
 use borrow.Author.Tests.{lt-ltb, leb-true, le-leb}
-use lib.Dec.{leb, ltb, eqb}
+use lib.Dec.{leb, eqb}
 use lib.ListN.{length, length-append, drop}
 use Rattle.rules.specs.Listing.{firstFrom}
 use Rattle.rules.specs.Cells.{readEach}
 use Rattle.rules.specs.Answer.{Answer, fine, refuse, _then_, ask, Detail}
 use Rattle.rules.specs.ParameterRecord.{Step, stepWidth, readStep, parameterLength, stepCount, readParameters}
-use Rattle.rules.specs.Parameters.{Style, posOnly, comesBefore, isArgs, isKwargs, Parameter, positional, positionalOnly, positionalCount, positionalOnlyCount, argsIndex, kwargsIndex, Act, adds, slash, bareStar, unknownCode, act, mayStand, nextStyle, added, addedFrom, parametersOf}
-use Rattle.rules.specs.ParameterQuestions.{wholeSteps, codesKnown, namesInside, defaultsRight, hasRoom, nameIsNew, askStep, askSteps, countsAgree, listOf, askParameters}
+use Rattle.rules.specs.Parameters.{Style, posOnly, comesBefore, isArgs, isKwargs, Parameter, positionalCount, positionalOnlyCount, argsIndex, kwargsIndex, Act, adds, slash, bareStar, unknownCode, act, mayStand, nextStyle, added, addedFrom, parametersOf}
+use Rattle.rules.specs.ParameterQuestions.{wholeSteps, codesKnown, namesInside, defaultsRight, hasRoom, nameIsNew, askStep, askSteps, listOf, askParameters}
 use Rattle.rules.proofs.LawsListing.{and-left, and-right, map-map}
 use Rattle.rules.proofs.LawsAnswer.{then-left, ask-true, fine-refuse}
-use Rattle.rules.proofs.LawsParameters.{steps-fine, counts-agree}
+use Rattle.rules.proofs.LawsCounts.{step-counts}
+use Rattle.rules.proofs.LawsParameters.{steps-fine}
 use Rattle.original.specs.Spec.{isSome, ParametersSpec, specOf}
-use Rattle.original.specs.Builder.{next, indexToU32, withCapacity, finish, takeStep, takeSteps, built, finishedOf, askWhole, unlessRefused, BuiltOriginal}
+use Rattle.original.specs.Builder.{next, indexToU32, Builder, withCapacity, finish, takeStep, takeSteps, built, finishedOf, askWhole, unlessRefused, BuiltOriginal}
 use Rattle.original.proofs.LawsSpec.{positional-within}
 use Rattle.original.proofs.LawsBuilder.{to-u32, paramOf, stateOf, Stands, call-step, stands-after}
 
@@ -82,11 +83,6 @@ module _ (area : List ℕ) where
 
 -- ---- finish
 
--- no more parameters are positional-only than positional
-only-below : (qs : List Parameter) → positionalOnlyCount qs ≤ positionalCount qs
-unfolding countsAgree
-only-below qs = leb-true (positionalOnlyCount qs) (positionalCount qs) (counts-agree qs)
-
 first-within : {X : Type 0} (f : X → Bool) (i : ℕ) (xs : List X) (k : ℕ) → firstFrom f i xs ≡ some k → k < i + length xs
 first-within f i [] k e = let z : _≡_ {A = ℕ} 0 1 = cc in absurd (omega arith)
 first-within f i (x ∷ xs) k e = go (f x) e (first-within f (suc i) xs k)
@@ -115,12 +111,11 @@ module _ (qs : List Parameter) (short : length qs < 4294967296) where
   unfolding kwargsIndex
   kwargs-fits = index-fits (λ q. isKwargs (q .kind)) qs short
 
-  -- no assert and no number of `finish` panics
-  finish-state : (s : Style) → finish (stateOf qs s) ≡ some (finishedOf qs)
+  -- no number of `finish` panics, nor its assert where no more parameters are positional-only than positional
+  finish-state : (s : Style) → positionalOnlyCount qs ≤ positionalCount qs → finish (stateOf qs s) ≡ some (finishedOf qs)
   unfolding finishedOf specOf
-  finish-state s =
+  finish-state s some-only =
       let some-positional : positionalCount qs ≤ length qs = positional-within qs in
-      let some-only : positionalOnlyCount qs ≤ positionalCount qs = only-below qs in
       rw (
         to-u32 (positionalOnlyCount qs) (omega arith),
         to-u32 (positionalCount qs) (omega arith),
@@ -186,20 +181,6 @@ module _ (A : ℕ) (area : List ℕ) where
       go true false n later f e₁ ih = absurd (false≢true e₁)
       go false r n later f e₁ ih = refl
 
-  -- steps are refused by 5, 6 or 7
-  refused-number : (s : Style) (before : List Parameter) (ts : List Step) (n : ℕ) (d : Detail) → askSteps A area s before ts ≡ refuse n d → n ≤ 7
-  unfolding askStep
-  refused-number s before [] n d e = fine-refuse e
-  refused-number s before (t ∷ ts) n d e =
-      go (mayStand s (act t)) (hasRoom A before (act t)) (nameIsNew area s before (act t) (t .name)) (askSteps A area (nextStyle s (act t)) (before ++ added area s (act t) (t .name)) ts) e
-      (refused-number (nextStyle s (act t)) (before ++ added area s (act t) (t .name)) ts n d)
-    where
-      go : (m r w : Bool) (later : Answer) → ((ask 5 m then ask 6 r then ask 7 w) then later) ≡ refuse n d → (later ≡ refuse n d → n ≤ 7) → n ≤ 7
-      go true true true later e₁ ih = ih e₁
-      go true true false later e₁ ih = let same : 7 ≡ n = cc in omega arith
-      go true false w later e₁ ih = let same : 6 ≡ n = cc in omega arith
-      go false r w later e₁ ih = let same : 5 ≡ n = cc in omega arith
-
 -- ---- of a record
 
 each-length : {X : Type 0} (width : ℕ) (read : List ℕ → X) (count : ℕ) (cells : List ℕ) → length (readEach width read count cells) ≡ count
@@ -207,26 +188,22 @@ each-length width read zero cells = refl
 each-length width read (suc count) cells = ap suc (each-length width read count (drop width cells))
 
 -- a refusal past the first four is that of the steps
-refused-steps : (w c i r e : Bool) (a : Answer) (n : ℕ) (d : Detail) → e ≡ true → 4 < n
-    → (ask 1 w then ask 2 c then ask 3 i then ask 4 r then a then ask 8 e) ≡ refuse n d → (w ≡ true) × (a ≡ refuse n d)
-refused-steps true true true true true fine n d y h p = fine-refuse p
-refused-steps true true true true true (refuse m x) n d y h p = (refl, p)
-refused-steps true true true true false a n d y h p = absurd (false≢true y)
-refused-steps true true true false e a n d y h p = let same : 4 ≡ n = cc in absurd (omega arith)
-refused-steps true true false r e a n d y h p = let same : 3 ≡ n = cc in absurd (omega arith)
-refused-steps true false i r e a n d y h p = let same : 2 ≡ n = cc in absurd (omega arith)
-refused-steps false c i r e a n d y h p = let same : 1 ≡ n = cc in absurd (omega arith)
+refused-steps : (w c i r : Bool) (a : Answer) (n : ℕ) (d : Detail) → 4 < n
+    → (ask 1 w then ask 2 c then ask 3 i then ask 4 r then a) ≡ refuse n d → (w ≡ true) × (a ≡ refuse n d)
+refused-steps true true true true a n d h p = (refl, p)
+refused-steps true true true false a n d h p = let same : 4 ≡ n = cc in absurd (omega arith)
+refused-steps true true false r a n d h p = let same : 3 ≡ n = cc in absurd (omega arith)
+refused-steps true false i r a n d h p = let same : 2 ≡ n = cc in absurd (omega arith)
+refused-steps false c i r a n d h p = let same : 1 ≡ n = cc in absurd (omega arith)
 
 -- where those four pass, the answer is that of the steps
-passed-steps : (w c i r e : Bool) (a : Answer) → e ≡ true → (ask 1 w then ask 2 c then ask 3 i then ask 4 r) ≡ fine
-    → (w ≡ true) × ((ask 1 w then ask 2 c then ask 3 i then ask 4 r then a then ask 8 e) ≡ a)
-passed-steps true true true true true fine y p = (refl, refl)
-passed-steps true true true true true (refuse m x) y p = (refl, refl)
-passed-steps true true true true false a y p = absurd (false≢true y)
-passed-steps true true true false e a y p = fine-refuse (sym p)
-passed-steps true true false r e a y p = fine-refuse (sym p)
-passed-steps true false i r e a y p = fine-refuse (sym p)
-passed-steps false c i r e a y p = fine-refuse (sym p)
+passed-steps : (w c i r : Bool) (a : Answer) → (ask 1 w then ask 2 c then ask 3 i then ask 4 r) ≡ fine
+    → (w ≡ true) × ((ask 1 w then ask 2 c then ask 3 i then ask 4 r then a) ≡ a)
+passed-steps true true true true a p = (refl, refl)
+passed-steps true true true false a p = fine-refuse (sym p)
+passed-steps true true false r a p = fine-refuse (sym p)
+passed-steps true false i r a p = fine-refuse (sym p)
+passed-steps false c i r a p = fine-refuse (sym p)
 
 -- nothing is there yet
 start : withCapacity ≡ stateOf [] posOnly
@@ -250,25 +227,40 @@ module _ (cells area : List ℕ) where
       rw (each-length stepWidth readStep (stepCount cells) (drop 1 cells))
       (leb-true (stepCount cells) 66 (and-right (eqb (length cells) (parameterLength (stepCount cells))) (leb (stepCount cells) 66) w))
 
-  -- the run and `finish` panic exactly where a step doesn't fit
+  -- the run panics exactly where a step doesn't fit
+  run-fit : wholeSteps 64 cells ≡ true
+      → takeSteps area withCapacity steps ≡ cond (allFit area posOnly [] steps) (some (stateOf (addedFrom area posOnly steps) (styleAfter area posOnly steps))) none
+  run-fit w =
+      let short : length steps ≤ 66 = steps-short w in
+      ap (λ b. takeSteps area b steps) start ∙ take-all area posOnly [] steps start-stands (omega arith)
+
+  -- so its state passes what line 326 asserts
+  asserted-326 : wholeSteps 64 cells ≡ true → (self : Builder) → takeSteps area withCapacity steps ≡ some self → leb (self .positionalOnly) (self .positional) ≡ true
+  asserted-326 w self e = go (allFit area posOnly [] steps) (sym (run-fit w) ∙ e)
+    where
+      go : (c : Bool) → cond c (some (stateOf (addedFrom area posOnly steps) (styleAfter area posOnly steps))) none ≡ some self → leb (self .positionalOnly) (self .positional) ≡ true
+      go true f =
+          let is : stateOf (addedFrom area posOnly steps) (styleAfter area posOnly steps) ≡ self = cc in
+          rw (← is) (le-leb (positionalOnlyCount (addedFrom area posOnly steps)) (positionalCount (addedFrom area posOnly steps)) (step-counts area .only-within steps))
+      go false f = let z : _≡_ {A = ℕ} 0 1 = cc in absurd (omega arith)
+
+  -- and `finish` never panics
   built-fit : wholeSteps 64 cells ≡ true → built cells area ≡ cond (allFit area posOnly [] steps) (some spec) none
   unfolding built listOf parametersOf
   built-fit w =
       let short : length steps ≤ 66 = steps-short w in
-      ap (λ b. next (takeSteps area b steps) finish) start
-      ∙ ap (λ o. next o finish) (take-all area posOnly [] steps start-stands (omega arith))
-      ∙ go (allFit area posOnly [] steps) (omega (arith, added-all area posOnly steps))
+      ap (λ o. next o finish) (run-fit w) ∙ go (allFit area posOnly [] steps) (omega (arith, added-all area posOnly steps))
     where
       go : (c : Bool) → length (addedFrom area posOnly steps) < 4294967296
           → next (cond c (some (stateOf (addedFrom area posOnly steps) (styleAfter area posOnly steps))) none) finish ≡ cond c (some (finishedOf (addedFrom area posOnly steps))) none
-      go true h = finish-state (addedFrom area posOnly steps) h (styleAfter area posOnly steps)
+      go true h = finish-state (addedFrom area posOnly steps) h (styleAfter area posOnly steps) (step-counts area .only-within steps)
       go false h = refl
 
   -- the steps of a record that is refused past the first four
   from-steps : (n : ℕ) (d : Detail) → 4 < n → askParameters 64 cells area ≡ refuse n d → (wholeSteps 64 cells ≡ true) × (askSteps 64 area posOnly [] steps ≡ refuse n d)
   unfolding askParameters
   from-steps n d h p =
-      refused-steps (wholeSteps 64 cells) (codesKnown steps) (namesInside area (readParameters cells)) (defaultsRight area steps) (countsAgree (listOf cells area)) (askSteps 64 area posOnly [] steps) n d (counts-agree (listOf cells area)) h p
+      refused-steps (wholeSteps 64 cells) (codesKnown steps) (namesInside area (readParameters cells)) (defaultsRight area steps) (askSteps 64 area posOnly [] steps) n d h p
 
   panics : (n : ℕ) (d : Detail) → 4 < n → (6 ≡ n → ⊥) → askParameters 64 cells area ≡ refuse n d → built cells area ≡ none
   panics n d h six p =
@@ -282,7 +274,7 @@ module _ (cells area : List ℕ) where
   finishes : askParameters 64 cells area ≡ fine → built cells area ≡ some spec
   unfolding askParameters
   finishes p =
-      built-fit (ask-true 1 (wholeSteps 64 cells) (then-left (ask 1 (wholeSteps 64 cells)) (ask 2 (codesKnown steps) then ask 3 (namesInside area (readParameters cells)) then ask 4 (defaultsRight area steps) then askSteps 64 area posOnly [] steps then ask 8 (countsAgree (listOf cells area))) p))
+      built-fit (ask-true 1 (wholeSteps 64 cells) (then-left (ask 1 (wholeSteps 64 cells)) (ask 2 (codesKnown steps) then ask 3 (namesInside area (readParameters cells)) then ask 4 (defaultsRight area steps) then askSteps 64 area posOnly [] steps) p))
       ∙ ap (λ c. cond c (some spec) none) (fine-fit 64 area posOnly [] steps (steps-fine 64 cells area p))
 
   without-6 : wholeSteps 64 cells ≡ true → built cells area ≡ unlessRefused (askSteps 66 area posOnly [] steps) spec
@@ -297,7 +289,7 @@ module _ (cells area : List ℕ) where
       (fit-asked 64 area posOnly [] steps (go (allFit area posOnly [] steps) (sym (ap isSome (built-fit (r .0))) ∙ b)))
     where
       r : (wholeSteps 64 cells ≡ true) × (askParameters 64 cells area ≡ askSteps 64 area posOnly [] steps)
-      r = passed-steps (wholeSteps 64 cells) (codesKnown steps) (namesInside area (readParameters cells)) (defaultsRight area steps) (countsAgree (listOf cells area)) (askSteps 64 area posOnly [] steps) (counts-agree (listOf cells area)) p
+      r = passed-steps (wholeSteps 64 cells) (codesKnown steps) (namesInside area (readParameters cells)) (defaultsRight area steps) (askSteps 64 area posOnly [] steps) p
 
       go : (c : Bool) → isSome (cond c (some spec) none) ≡ true → c ≡ true
       go true e = refl
@@ -310,7 +302,7 @@ builder-original cells area =
       finishes = finishes cells area;
       panics-at-5 = λ d e. panics cells area 5 d (omega arith) (λ x. absurd (omega arith)) e;
       panics-at-7 = λ d e. panics cells area 7 d (omega arith) (λ x. absurd (omega arith)) e;
-      never-8 = λ d e. let low : 8 ≤ 7 = refused-number 64 area posOnly [] (readParameters cells .steps) 8 d (from-steps cells area 8 d (omega arith) e .1) in absurd (omega arith);
+      asserted-326 = asserted-326 cells area;
       without-6 = without-6 cells area;
       otherwise-6 = otherwise-6 cells area;
     }

@@ -245,7 +245,7 @@ module _ (qs : List Parameter) (apart : namesApart [] qs ≡ true) where
       slots : List (Option Held)
       slots = replicate (length (specOf qs .paramKinds)) none
 
--- of a list that passes 1 to 8, with a limit that a `usize` can count, and any call: the Rust does not panic, and ends as the total collector does
+-- of a list that passes 1 to 7, with a limit that a `usize` can count, and any call: the Rust does not panic, and ends as the total collector does
 pub collect-built : (A : ℕ) (cells area : List ℕ) → A ≤ usizeMax → askParameters A cells area ≡ fine → (c : Call) → Rust.collectInline (finishedOf (listOf cells area)) c ≡ some (collectInline (specOf (listOf cells area)) c)
 collect-built A cells area small passes c =
     collect-total (finishedOf (listOf cells area)) (finished-inside (listOf cells area)) c

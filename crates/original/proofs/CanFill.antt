@@ -1,4 +1,4 @@
--- The Rust's can-fill answers as 01's definition says, for every list that passes 1 to 8, any number of positionals and any names; and so
+-- The Rust's can-fill answers as 01's definition says, for every list that passes 1 to 7, any number of positionals and any names; and so
 -- does can-fill of two records.
 -- Assumes nothing.
 use mathlib.Core.Path.{_≡_, refl, sym, ap, ap₂, subst, _∙_}
@@ -96,7 +96,7 @@ module _ (qs : List Parameter) (first : positionalFirst qs ≡ true) (apart : na
       regroup true a f b = refl
       regroup false a f b = refl
 
--- `can_fill_with_args_impl` is 01's can-fill, of a record that passes 1 to 8
+-- `can_fill_with_args_impl` is 01's can-fill, of a record that passes 1 to 7
 pub can-fill-original : (A : ℕ) (specCells specBytes : List ℕ) → askParameters A specCells specBytes ≡ fine
     → (p : ℕ) (written : List (List ℕ)) → canFillWithArgs (specOf (listOf specCells specBytes)) p written ≡ some (canFill (listOf specCells specBytes) p written)
 can-fill-original A specCells specBytes passes p written =

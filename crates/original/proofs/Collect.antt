@@ -1,4 +1,4 @@
--- The Rust's collector against 01: over every parameter record that passes 1 to 8 and every call record that passes 9 to 13,
+-- The Rust's collector against 01: over every parameter record that passes 1 to 7 and every call record that passes 9 to 13,
 -- `collect_inline_impl` ends as questions 15 to 24 and the placement say, with each name read in its area. It is read as TotalCollect has it;
 -- that it doesn't panic over such a list is `collect-built`.
 -- Assumes nothing.

@@ -1,4 +1,4 @@
--- Laws of a list that passes 1 to 8, beside those of `rules`: the positional-only parameters come first, *args and **kwargs stand once at most,
+-- Laws of a list that passes 1 to 7, beside those of `rules`: the positional-only parameters come first, *args and **kwargs stand once at most,
 -- and there are no more than A parameters. They follow from the order of the styles under which the parameters were added.
 -- Assumes nothing.
 use mathlib.Core.Path.{_≡_, refl}

@@ -395,13 +395,16 @@ unlessRefused (refuse n d) spec = none
 
 -- what the Rust builds of a parameter record
 pub record BuiltOriginal (cells area : List ℕ) : Type 0 where
-  -- a record that passes 1 to 8 makes nothing panic, and its list is the one that 01's definitions give
+  -- a record that passes 1 to 7 makes nothing panic, and its list is the one that 01's definitions give
   pub finishes : askParameters 64 cells area ≡ fine → built cells area ≡ some (finishedOf (listOf cells area))
   -- a step that may not stand where it does, or whose name is not new, is a panic
   pub panics-at-5 : (d : Detail) → askParameters 64 cells area ≡ refuse 5 d → built cells area ≡ none
   pub panics-at-7 : (d : Detail) → askParameters 64 cells area ≡ refuse 7 d → built cells area ≡ none
-  -- no record is refused by 8: the counts that line 326 compares always agree
-  pub never-8 : (d : Detail) → askParameters 64 cells area ≡ refuse 8 d → ⊥
+  -- what line 326 asserts, which was 01's question 8, holds in every state that the steps of a record lead to, so nothing is asked for it (02, §8)
+  pub asserted-326
+      : wholeSteps 64 cells ≡ true
+      → (self : Builder) → takeSteps area withCapacity (readParameters cells .steps) ≡ some self
+      → leb (self .positionalOnly) (self .positional) ≡ true
   -- the Rust knows no bound for the parameters: with room for one parameter a step, where 6 is never the refusal, 5 and 7 decide alone
   pub without-6 : wholeSteps 64 cells ≡ true → built cells area ≡ unlessRefused (askSteps 66 area posOnly [] (readParameters cells .steps)) (finishedOf (listOf cells area))
   -- so what 01 refuses past 4 and the Rust builds has too many parameters. Not all that 6 refuses is built, since the Rust may still panic

@@ -1,5 +1,5 @@
 -- What preparing a record writes is a prepared list, in this order: the row that a step is laid out as; the rows and the list that are read
--- back from the cells; the rows of steps that pass are right; so the cells of a record that passes 1 to 8 are a prepared list of what it
+-- back from the cells; the rows of steps that pass are right; so the cells of a record that passes 1 to 7 are a prepared list of what it
 -- describes (`prepared-is`, `prepared-list`), and a call ends against them as against the record (`prepared-collects`).
 -- That nothing else is one stands in LawsPreparedOnly. Assumes nothing.
 use mathlib.Core.Path.{_≡_, refl, sym, ap, ap₂, _∙_}
@@ -17,14 +17,14 @@ use Rattle.rules.specs.Value.{Value, noValue, readValue}
 use Rattle.rules.specs.Answer.{Answer, fine, refuse, _then_, ask}
 use Rattle.rules.specs.ParameterRecord.{Step, readParameters}
 use Rattle.rules.specs.Parameters.{Style, posOnly, posOrNamed, namedOnly, noMore, ParameterKind, required, optional, defaulted, args, kwargs, Act, adds, slash, bareStar, unknownCode, actOf, act, comesBefore, mayStand, nextStyle, rank, Parameter, added, addedFrom, parametersOf}
-use Rattle.rules.specs.ParameterQuestions.{stepName, namesInside, isZero, usesRight, defaultsRight, hasRoom, nameIsNew, askStep, askSteps, countsAgree, listOf, askParameters}
+use Rattle.rules.specs.ParameterQuestions.{stepName, namesInside, isZero, usesRight, defaultsRight, hasRoom, nameIsNew, askStep, askSteps, listOf, askParameters}
 use Rattle.rules.specs.CallQuestions.{askCall, askBoard}
 use Rattle.rules.specs.Binding.{askBinding}
 use Rattle.rules.specs.Collection.{callOf, askRecords, collection}
 use Rattle.rules.proofs.LawsListing.{and-left, and-right, and-both, map-map}
 use Rattle.rules.proofs.LawsAnswer.{then-left, then-right, ask-true}
 use Rattle.rules.proofs.LawsRecord.{length-writeEach, readEach-writeEach}
-use Rattle.rules.proofs.LawsParameters.{from-third, steps-fine, list-namesApart}
+use Rattle.rules.proofs.LawsParameters.{names-fine, defaults-fine, steps-fine, list-namesApart}
 use Rattle.rules.proofs.LawsPrinted.{list-few}
 use Rattle.cells.proofs.LawsOut.{over-length}
 use Rattle.builder.specs.Params.{styleFor, kindFor, parameterOf}
@@ -218,30 +218,16 @@ module _ (A : ℕ) (area : List ℕ) where
 -- ---- of a record that passes
 
 module _ (spec area : List ℕ) (passes : askParameters 64 spec area ≡ fine) where
-  names-pass : namesInside area (readParameters spec) ≡ true
-  names-pass =
-      ask-true 3 (namesInside area (readParameters spec))
-      (then-left (ask 3 (namesInside area (readParameters spec)))
-      (ask 4 (defaultsRight area (readParameters spec .steps)) then askSteps 64 area posOnly [] (readParameters spec .steps) then ask 8 (countsAgree (listOf spec area)))
-      (from-third 64 spec area passes))
-
-  defaults-pass : defaultsRight area (readParameters spec .steps) ≡ true
-  defaults-pass =
-      let rest : Answer = askSteps 64 area posOnly [] (readParameters spec .steps) then ask 8 (countsAgree (listOf spec area)) in
-      ask-true 4 (defaultsRight area (readParameters spec .steps))
-      (then-left (ask 4 (defaultsRight area (readParameters spec .steps))) rest
-      (then-right (ask 3 (namesInside area (readParameters spec))) (ask 4 (defaultsRight area (readParameters spec .steps)) then rest) (from-third 64 spec area passes)))
-
   function-right : isText 1 area (getD spec 0 0) ≡ true
   unfolding namesInside readParameters
-  function-right = and-left (isText 1 area (readParameters spec .function)) (all (stepName area) (readParameters spec .steps)) names-pass
+  function-right = and-left (isText 1 area (readParameters spec .function)) (all (stepName area) (readParameters spec .steps)) (names-fine 64 spec area passes)
 
   listed-right : rowsRight area 0 (map rowOf (listOf spec area)) ≡ true
   unfolding listOf parametersOf namesInside
   listed-right =
       rows-right 64 area posOnly [] (readParameters spec .steps) 0 (omega arith) (steps-fine 64 spec area passes)
-      (and-right (isText 1 area (readParameters spec .function)) (all (stepName area) (readParameters spec .steps)) names-pass)
-      defaults-pass
+      (and-right (isText 1 area (readParameters spec .function)) (all (stepName area) (readParameters spec .steps)) (names-fine 64 spec area passes))
+      (defaults-fine 64 spec area passes)
 
 -- the cells that a record is prepared as spell the list that it describes
 pub prepared-list : (spec area out : List ℕ) → listIn area (over (preparedFrom spec area) out) ≡ listOf spec area
@@ -272,7 +258,7 @@ module _ (spec area out : List ℕ) (passes : askParameters 64 spec area ≡ fin
     unfolding preparedFrom
     room-kept = over-length (preparedFrom spec area) out (rw (length-prepared (getD spec 0 0) qs) room)
 
-    -- where a record passes 1 to 8 and its list has room, what preparing it leaves in the lent cells is a prepared list
+    -- where a record passes 1 to 7 and its list has room, what preparing it leaves in the lent cells is a prepared list
     pub prepared-is : isPrepared area (over (preparedFrom spec area) out) ≡ true
     unfolding isPrepared preparedFrom
     prepared-is =

@@ -1,5 +1,5 @@
 -- Only what preparing writes is a prepared list, in this order: rows written where they were read; the record that such cells come from
--- passes 1 to 8 and is prepared as them (`prepared-only`). So `isPrepared` says exactly that there is such a record (`prepared-by`), and a
+-- passes 1 to 7 and is prepared as them (`prepared-only`). So `isPrepared` says exactly that there is such a record (`prepared-by`), and a
 -- call ends against the cells as against it (`prepared-bound`).
 -- That what preparing writes is a prepared list stands in LawsPrepared. Assumes nothing.
 use mathlib.Core.Path.{_≡_, refl, ap, subst}
@@ -21,7 +21,6 @@ use Rattle.rules.specs.ParameterQuestions.{wholeSteps, isCode, codesKnown, step
 use Rattle.rules.specs.Passed.{namesApart}
 use Rattle.rules.specs.Collection.{collection}
 use Rattle.rules.proofs.LawsListing.{and-left, and-right, and-both}
-use Rattle.rules.proofs.LawsParameters.{counts-agree}
 use Rattle.rules.proofs.LawsRecord.{length-writeEach, stepCells-wide, readParameters-encodeParameters}
 use Rattle.prepared.specs.Prepared.{Row, rowWidth, rowCells, readRow, frontWidth, preparedLength, preparedCells, preparedFrom, rowsIn, parameterOfRow, listIn, addsOne, rowsRight, isPrepared, boundPrepared}
 use Rattle.prepared.proofs.LawsPrepared.{length-prepared, prepared-is, prepared-collects}
@@ -54,7 +53,7 @@ cells-over (a ∷ b ∷ cells) h = ap {B = List ℕ} (λ rest. a ∷ b ∷ rest)
 
 -- ---- cells that are a prepared list
 
--- a record that passes 1 to 8 and is prepared as what the cells hold
+-- a record that passes 1 to 7 and is prepared as what the cells hold
 pub record PreparedBy (area cells : List ℕ) : Type 0 where
   pub spec : List ℕ
   pub passes : askParameters 64 spec area ≡ fine
@@ -170,7 +169,7 @@ module _ (area cells : List ℕ) (h : Tests area cells) where
 
   spec-passes : askParameters 64 (specFor cells) area ≡ fine
   unfolding askParameters recordFor
-  spec-passes = rw (read-back, whole, codes, names, defaults, asked, counts-agree (listOf (specFor cells) area))
+  spec-passes = rw (read-back, whole, codes, names, defaults, asked)
 
   function-same : getD (specFor cells) 0 0 ≡ getD cells 1 0
   unfolding specFor encodeParameters recordFor
@@ -183,7 +182,7 @@ module _ (area cells : List ℕ) (h : Tests area cells) where
   spec-written : over (preparedFrom (specFor cells) area) cells ≡ cells
   spec-written = rw cells-same (cells-over cells (h .long))
 
--- cells that pass for a prepared list are what preparing some record that passes 1 to 8 leaves in them
+-- cells that pass for a prepared list are what preparing some record that passes 1 to 7 leaves in them
 pub prepared-only : (area cells : List ℕ) → isPrepared area cells ≡ true → PreparedBy area cells
 prepared-only area cells e =
     let h : Tests area cells = tests-of area cells e in

@@ -1,5 +1,5 @@
 -- The steps that lead to the rows of a prepared list, in this order: what a right row says; its parameter is laid out as the row again; the
--- steps, with the marks put in where the style changes; what 1 to 8 ask of them, and the list that they add.
+-- steps, with the marks put in where the style changes; what 1 to 7 ask of them, and the list that they add.
 -- Assumes nothing.
 use mathlib.Core.Path.{_≡_, refl, sym, ap, ap₂, subst, _∙_}
 use mathlib.Core.Bool.{Bool, true, false, cond, not, _&&_, _||_, false≢true}

@@ -18,7 +18,7 @@ use Rattle.prepared.specs.declared.PreparedBound.the-variants.{NotPrepar
 
 -- ---- preparing
 
--- the answer, by what 1 to 8 answer, whether there is room for the longest list, and how many parameters there are
+-- the answer, by what 1 to 7 answer, whether there is room for the longest list, and how many parameters there are
 abbrev pub preparationOf : Answer → Bool → ℕ → Preparation
 preparationOf (refuse n d) room count = Refused n
 preparationOf fine true count = Written (preparedLength count)

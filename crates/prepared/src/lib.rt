@@ -36,7 +36,7 @@ pub const PREPARED: usize = 386;
 pub enum Preparation {
     // so many cells are written
     Written(usize),
-    // 1 to 8, by its number
+    // 1 to 7, by its number
     Refused(u64),
     // fewer cells are lent than the longest list takes
     NoRoom,

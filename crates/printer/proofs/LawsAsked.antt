@@ -1,4 +1,4 @@
--- Laws of what `parameters_str` answers, by the questions: a refusal of 1 to 8 leaves the output as it was, and so does 29; past 29 the list is
+-- Laws of what `parameters_str` answers, by the questions: a refusal of 1 to 7 leaves the output as it was, and so does 29; past 29 the list is
 -- ready to be written, and what is written is the definition's. At the end: an answer forgets nothing of what it tells. Assumes nothing.
 use mathlib.Core.Path.{_≡_, refl, sym, ap, ap₂, _∙_}
 use mathlib.Core.List.{List}
@@ -18,7 +18,7 @@ use Rattle.cells.specs.Answer.{answerOf}
 use Rattle.cells.specs.declared.answer.Answer.the-variants as answers
 use Rattle.builder.specs.Params.{parametersIn}
 use Rattle.builder.specs.Build.{IsList, Building}
-use Rattle.builder.specs.declared.spec.Finished.{Finished}
+use Rattle.builder.specs.declared.Finished.{Finished}
 use Rattle.printer.specs.Printed.{accessIn, Printing, ListReady, ListWritten}
 use Rattle.printer.specs.declared.Printed.{Printed}
 use Rattle.printer.specs.declared.Printed.the-variants.{Length, Refused}

@@ -30,7 +30,7 @@ pub enum Printed {
     Refused(u64),
 }
 
-// Questions 1 to 8, then 29; nothing is written before the last of them.
+// Questions 1 to 7, then 29; nothing is written before the last of them.
 pub fn parameters_str(cells: &[u64], area: &[u8], out: &mut [u8]) -> Printed
     ensures { λ r. ⌜ Printing (now (cells .entry)) (now (area .entry)) (now (out .entry)) (now (out .exit)) r ⌝ }
 {

@@ -1,4 +1,4 @@
--- 01's twelve examples, its example of `bind`, the limits of a sheet, and cuts, printed lists and accessors at work, by computation: every
+-- 01's twelve examples, its example of `bind`, the limits of a sheet, and cuts, printed lists, counts of step lists and accessors at work, by computation: every
 -- definition that they cite is unfolded and each side computed.
 -- Assumes nothing.
 use mathlib.Core.Path.{refl}
@@ -6,6 +6,7 @@ use lib.Dec.{lit≤}
 use Rattle.rules.specs.Cells.{over}
 use Rattle.rules.specs.Text.{payloadOf}
 use Rattle.rules.specs.Examples.{Twelve, collected, boardBefore, listW, listK, noParameters, stepsW, specBytes, callBytes}
+use Rattle.rules.specs.CountExamples.{CountExamples, bothCounts, stepsAsked}
 use Rattle.rules.specs.SheetExamples.{SheetExamples, exampleInput, exampleOutput, bindsTo, SheetLimits, judged, listBegun, callBegun, times, withSteps, withRows, listRow, dictRow, valueRows, namedRows, itemRows, entryRows, textRow}
 use Rattle.rules.specs.PrintedExamples.{PrintedExamples, asked, shown, starBytes, steps, allSteps}
 use Rattle.rules.specs.CutExamples.{CutExamples, ends, fills, listM, callBytes as cutBytes}
@@ -28,6 +29,20 @@ twelve =
       star-first = refl;
       whole-key = refl;
       nothing-asked = refl;
+    }
+
+pub count-examples : CountExamples
+unfolding bothCounts stepsAsked
+count-examples =
+    record {
+      either-way = refl;
+      by-name = refl;
+      misplaced = refl;
+      misplaced-refused = refl;
+      too-many = refl;
+      too-many-refused = refl;
+      repeated = refl;
+      repeated-refused = refl;
     }
 
 pub cut-examples : CutExamples

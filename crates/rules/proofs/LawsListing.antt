@@ -4,7 +4,7 @@
 use mathlib.Core.Path.{_≡_, refl, sym, ap, ap₂}
 use mathlib.Core.Bool.{Bool, true, false, cond, not, _&&_, _||_, false≢true, true≢false}
 use mathlib.Core.List.{List, [], _∷_, _++_, map}
-use Prim.Native.Nat.{ℕ, zero, suc, _+_, _≤_}
+use Prim.Native.Nat.{ℕ, zero, suc, _+_}
 use native.Mathlib.Omega.{arith}
 use lib.ListN.{length, take, drop}
 use Rattle.rules.specs.Listing.{all, any, tally, keep, anyFrom}
@@ -90,17 +90,6 @@ module _ {X : Type 0} (f : X → Bool) where
           → cond b (suc (tally f (xs ++ ys))) (tally f (xs ++ ys)) ≡ cond b (suc (tally f xs)) (tally f xs) + tally f ys
       go true e = omega arith
       go false e = e
-
-  -- no more pass a test than one that it implies
-  pub tally-fewer : (g : X → Bool) → ((x : X) → f x ≡ true → g x ≡ true) → (xs : List X) → tally f xs ≤ tally g xs
-  tally-fewer g h [] = omega arith
-  tally-fewer g h (x ∷ xs) = go (f x) (g x) (h x) (tally-fewer g h xs)
-    where
-      go : (a b : Bool) → (a ≡ true → b ≡ true) → tally f xs ≤ tally g xs → cond a (suc (tally f xs)) (tally f xs) ≤ cond b (suc (tally g xs)) (tally g xs)
-      go true true i n = omega arith
-      go true false i n = absurd (false≢true (i refl))
-      go false true i n = omega arith
-      go false false i n = n
 
   -- those that pass and those that are kept for not passing are all there are
   pub tally-keep : (xs : List X) → length xs ≡ tally f xs + length (keep (λ x. not (f x)) xs)

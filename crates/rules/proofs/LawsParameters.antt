@@ -1,21 +1,20 @@
--- Laws of a list that passes 1 to 8: its positional parameters come first, no name is that of two nameable parameters, and the names of
--- nameable parameters lie inside the area. Every list passes 8.
+-- Laws of a list that passes 1 to 7: its positional parameters come first, no name is that of two nameable parameters, and the names of
+-- nameable parameters lie inside the area.
 -- Assumes nothing.
-use mathlib.Core.Path.{_≡_, refl, sym, ap}
+use mathlib.Core.Path.{_≡_, refl, sym}
 use mathlib.Core.Bool.{Bool, true, false, cond, not, _&&_, _||_, false≢true, true≢false}
 use mathlib.Core.List.{List, [], _∷_, _++_, append-nil}
 use Prim.Native.Nat.{ℕ}
-use lib.Dec.{leb, ltb}
-use borrow.Author.Tests.{le-leb}
-use Rattle.rules.specs.Listing.{all, tally}
-use Rattle.rules.specs.Text.{Text, bytesAt, textIn, sizeOf, inside, isText}
+use lib.Dec.{leb}
+use Rattle.rules.specs.Listing.{all}
+use Rattle.rules.specs.Text.{bytesAt, textIn, sizeOf, inside, isText}
 use Rattle.rules.specs.Answer.{Answer, fine, _then_, ask}
 use Rattle.rules.specs.ParameterRecord.{Step, readParameters}
-use Rattle.rules.specs.Parameters.{Style, posOnly, posOrNamed, namedOnly, noMore, required, optional, defaulted, args, kwargs, Act, adds, slash, bareStar, unknownCode, act, rank, comesBefore, mayStand, nextStyle, Parameter, plain, takesPosition, takesName, positional, nameable, positionalOnly, positionalOnlyCount, positionalCount, added, addedFrom, parametersOf}
+use Rattle.rules.specs.Parameters.{Style, posOnly, posOrNamed, namedOnly, noMore, required, optional, defaulted, args, kwargs, Act, adds, slash, bareStar, unknownCode, act, comesBefore, mayStand, nextStyle, Parameter, plain, takesPosition, takesName, positional, nameable, added, addedFrom, parametersOf}
 use Rattle.rules.specs.Lookup.{known}
-use Rattle.rules.specs.ParameterQuestions.{hasName, stepName, hasRoom, nameIsNew, askStep, askSteps, askParameters, listOf, wholeSteps, codesKnown, namesInside, defaultsRight, countsAgree}
+use Rattle.rules.specs.ParameterQuestions.{hasName, stepName, hasRoom, nameIsNew, askStep, askSteps, askParameters, listOf, wholeSteps, codesKnown, namesInside, defaultsRight}
 use Rattle.rules.specs.Passed.{positionalFirst, namesApart, nameInside}
-use Rattle.rules.proofs.LawsListing.{and-both, and-left, and-right, all-append, tally-fewer}
+use Rattle.rules.proofs.LawsListing.{and-both, and-left, and-right, all-append}
 use Rattle.rules.proofs.LawsAnswer.{then-left, then-right, ask-true}
 
 -- ---- the positional parameters come first
@@ -145,20 +144,30 @@ names-inside area s (t ∷ ts) e =
 -- ---- of a record that passes
 
 module _ (A : ℕ) (cells area : List ℕ) (passes : askParameters A cells area ≡ fine) where
-  -- 3 to 8 pass
-  pub from-third : (ask 3 (namesInside area (readParameters cells)) then ask 4 (defaultsRight area (readParameters cells .steps)) then askSteps A area posOnly [] (readParameters cells .steps) then ask 8 (countsAgree (listOf cells area))) ≡ fine
+  abbrev third : Answer
+  third = ask 3 (namesInside area (readParameters cells))
+
+  abbrev fourth : Answer
+  fourth = ask 4 (defaultsRight area (readParameters cells .steps))
+
+  abbrev steps : Answer
+  steps = askSteps A area posOnly [] (readParameters cells .steps)
+
+  -- 3 to 7 pass
+  from-third : (third then fourth then steps) ≡ fine
   unfolding askParameters
   from-third =
-      let rest : Answer = ask 3 (namesInside area (readParameters cells)) then ask 4 (defaultsRight area (readParameters cells .steps)) then askSteps A area posOnly [] (readParameters cells .steps) then ask 8 (countsAgree (listOf cells area)) in
-      then-right (ask 2 (codesKnown (readParameters cells .steps))) rest (then-right (ask 1 (wholeSteps A cells)) (ask 2 (codesKnown (readParameters cells .steps)) then rest) passes)
+      then-right (ask 2 (codesKnown (readParameters cells .steps))) (third then fourth then steps)
+      (then-right (ask 1 (wholeSteps A cells)) (ask 2 (codesKnown (readParameters cells .steps)) then third then fourth then steps) passes)
+
+  pub names-fine : namesInside area (readParameters cells) ≡ true
+  names-fine = ask-true 3 (namesInside area (readParameters cells)) (then-left third (fourth then steps) from-third)
+
+  pub defaults-fine : defaultsRight area (readParameters cells .steps) ≡ true
+  defaults-fine = ask-true 4 (defaultsRight area (readParameters cells .steps)) (then-left fourth steps (then-right third (fourth then steps) from-third))
 
   pub steps-fine : askSteps A area posOnly [] (readParameters cells .steps) ≡ fine
-  steps-fine =
-      let last : Answer = ask 8 (countsAgree (listOf cells area)) in
-      let steps : Answer = askSteps A area posOnly [] (readParameters cells .steps) in
-      then-left steps last
-      (then-right (ask 4 (defaultsRight area (readParameters cells .steps))) (steps then last)
-      (then-right (ask 3 (namesInside area (readParameters cells))) (ask 4 (defaultsRight area (readParameters cells .steps)) then steps then last) from-third))
+  steps-fine = then-right fourth steps (then-right third (fourth then steps) from-third)
 
   pub list-positionalFirst : positionalFirst (listOf cells area) ≡ true
   unfolding listOf parametersOf
@@ -172,24 +181,4 @@ module _ (A : ℕ) (cells area : List ℕ) (passes : askParameters A cells area 
   unfolding listOf parametersOf namesInside
   list-nameInside =
       names-inside area posOnly (readParameters cells .steps)
-      (and-right (isText 1 area (readParameters cells .function)) (all (stepName area) (readParameters cells .steps))
-      (ask-true 3 (namesInside area (readParameters cells))
-      (then-left (ask 3 (namesInside area (readParameters cells))) (ask 4 (defaultsRight area (readParameters cells .steps)) then askSteps A area posOnly [] (readParameters cells .steps) then ask 8 (countsAgree (listOf cells area))) from-third)))
-
--- ---- question 8
-
--- what is positional-only is positional
-only-positional : (q : Parameter) → positionalOnly q ≡ true → positional q ≡ true
-unfolding positionalOnly positional comesBefore
-only-positional q e = go (plain (q .kind)) (q .style) e
-  where
-    go : (p : Bool) (s : Style) → (p && ltb (rank s) 1) ≡ true → (p && takesPosition s) ≡ true
-    go true posOnly f = refl
-    go true posOrNamed f = refl
-    go true namedOnly f = f
-    go true noMore f = f
-    go false s f = f
-
-pub counts-agree : (qs : List Parameter) → countsAgree qs ≡ true
-unfolding countsAgree positionalOnlyCount positionalCount
-counts-agree qs = le-leb (tally positionalOnly qs) (tally positional qs) (tally-fewer positionalOnly positional only-positional qs)
+      (and-right (isText 1 area (readParameters cells .function)) (all (stepName area) (readParameters cells .steps)) names-fine)

@@ -1,6 +1,6 @@
 -- Laws of the printed list, in this order: a name is not longer printed than it is; a joined list is not longer than its items with a comma and a
 -- blank each; the items of a sort, and each sign, by how many parameters there are of the sort; so the longest list fits its output, and a list
--- that passes 1 to 8 is such a list. Assumes nothing.
+-- that passes 1 to 7 is such a list. Assumes nothing.
 use mathlib.Core.Path.{_≡_, refl}
 use mathlib.Core.Bool.{Bool, true, false, cond, not, _&&_, _||_, false≢true}
 use mathlib.Core.List.{List, [], _∷_, _++_, map, append-nil, append-assoc}
@@ -14,11 +14,11 @@ use Rattle.rules.specs.Text.{bytesAt, textIn, sizeOf, startOf, inside, i
 use Rattle.rules.specs.Answer.{Answer, fine, _then_, ask}
 use Rattle.rules.specs.ParameterRecord.{Step, readParameters}
 use Rattle.rules.specs.Parameters.{Style, posOnly, posOrNamed, namedOnly, noMore, ParameterKind, required, optional, defaulted, args, kwargs, Act, adds, slash, bareStar, unknownCode, act, comesBefore, mayStand, nextStyle, Parameter, plain, takesPosition, takesName, positional, nameable, positionalOnly, isArgs, isKwargs, hasArgs, hasKwargs, added, addedFrom, parametersOf}
-use Rattle.rules.specs.ParameterQuestions.{hasName, stepName, hasRoom, nameIsNew, askStep, askSteps, askParameters, listOf, namesInside, defaultsRight, countsAgree}
+use Rattle.rules.specs.ParameterQuestions.{hasName, stepName, hasRoom, nameIsNew, askStep, askSteps, askParameters, listOf, namesInside}
 use Rattle.rules.specs.Printed.{asterisk, withoutDouble, withoutSingle, printedName, mark, item, itemsOf, eitherWay, nameOnly, ifAny, slashItem, starItem, kwargsItem, comma, join, printed, printedLeast}
 use Rattle.rules.proofs.LawsListing.{and-left, and-right, all-append}
 use Rattle.rules.proofs.LawsAnswer.{then-left, then-right, ask-true}
-use Rattle.rules.proofs.LawsParameters.{from-third, steps-fine}
+use Rattle.rules.proofs.LawsParameters.{names-fine, steps-fine}
 
 -- ---- a name and an item
 
@@ -309,9 +309,7 @@ module _ (A : ℕ) (cells area : List ℕ) (passes : askParameters A cells area 
   unfolding listOf parametersOf namesInside
   list-shortName =
       names-short area posOnly (readParameters cells .steps)
-      (and-right (isText 1 area (readParameters cells .function)) (all (stepName area) (readParameters cells .steps))
-      (ask-true 3 (namesInside area (readParameters cells))
-      (then-left (ask 3 (namesInside area (readParameters cells))) (ask 4 (defaultsRight area (readParameters cells .steps)) then askSteps A area posOnly [] (readParameters cells .steps) then ask 8 (countsAgree (listOf cells area))) (from-third A cells area passes))))
+      (and-right (isText 1 area (readParameters cells .function)) (all (stepName area) (readParameters cells .steps)) (names-fine A cells area passes))
 
   -- so the printed list fits an output that passes 29
   pub list-fits : length (printed (listOf cells area)) ≤ printedLeast A

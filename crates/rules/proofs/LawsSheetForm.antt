@@ -1,27 +1,26 @@
--- What a right input leaves to be asked (01, sheets; the questions): its records pass 1, 2, 9 and 10 (`right-sheets-form`), every list passes 8
--- and the board 14, so its call is refused by the other questions alone (`right-sheets-refused`).
+-- What a right input leaves to be asked (01, sheets; the questions): its records pass 1, 2, 9 and 10 (`right-sheets-form`) and the board 14, so
+-- its call is refused by the other questions alone (`right-sheets-refused`).
 -- Assumes nothing.
 use mathlib.Core.Path.{_≡_, refl, ap, _∙_}
-use mathlib.Core.Bool.{Bool, true, false, cond, _&&_, _||_, false≢true}
-use mathlib.Core.List.{List, [], _∷_, _++_, map}
+use mathlib.Core.Bool.{Bool, true, false, cond, _&&_, _||_, or-true, false≢true}
+use mathlib.Core.List.{List, [], _∷_, map}
 use Prim.Native.Nat.{ℕ, suc, _+_, _≤_}
 use native.Mathlib.Omega.{arith}
 use lib.Dec.{leb, ltb, eqb}
 use lib.ListN.{length, replicate, length-map, length-replicate}
 use borrow.Author.Tests.{le-leb, eq-eqb}
 use Rattle.rules.specs.Listing.{all, tally}
-use Rattle.rules.specs.Text.{sameBytes, among}
+use Rattle.rules.specs.Text.{sameBytes}
 use Rattle.rules.specs.Value.{Value}
-use Rattle.rules.specs.Answer.{Answer, fine, refuse, _then_, ask, Detail, name, specArea, callArea, partOf}
-use Rattle.rules.specs.ParameterRecord.{Step, ParameterRecord, parameterLength, readParameters, encodeParameters}
-use Rattle.rules.specs.CallRecord.{CallRecord, Call, Named, Entry, Key, word, number, wordOf, callLength, readCall, encodeCall, entriesOf, positionalsOf, namedOf}
-use Rattle.rules.specs.Parameters.{Parameter, Style, posOnly, posOrNamed, namedOnly, noMore, actOf, act, mayStand, nextStyle, added, isRequired, hasArgs, hasKwargs}
-use Rattle.rules.specs.ParameterQuestions.{isCode, wholeSteps, codesKnown, namesInside, defaultsRight, hasRoom, nameIsNew, askStep, askSteps, listOf, askParameters}
+use Rattle.rules.specs.Answer.{Answer, fine, _then_, ask, Detail}
+use Rattle.rules.specs.ParameterRecord.{ParameterRecord, parameterLength, readParameters, encodeParameters}
+use Rattle.rules.specs.CallRecord.{CallRecord, Call, callLength, readCall, encodeCall, positionalsOf, namedOf}
+use Rattle.rules.specs.Parameters.{Parameter, posOnly, actOf, act}
+use Rattle.rules.specs.ParameterQuestions.{isCode, wholeSteps, codesKnown, namesInside, defaultsRight, askSteps, listOf, askParameters}
 use Rattle.rules.specs.CallQuestions.{lengthsRight, kindsRight, partsWellFormed, entriesDiffer, namesDiffer, askForm, askCall, askBoard}
-use Rattle.rules.specs.Placement.{Slot, isUnfilled, fromP, place, starRemainder, namedRemainder}
 use Rattle.rules.specs.Board.{boardLeast}
-use Rattle.rules.specs.Binding.{starPasses, doublePasses, textsOf, namedBy, askRepeats, namesFilled, askEntry, askEntries, missing, askRequired, askStarRemainder, askNamedRemainder, askPlaced, askBinding}
-use Rattle.rules.specs.Collection.{refused, outcomeOf, callOf, askRecords, collection}
+use Rattle.rules.specs.Binding.{askBinding}
+use Rattle.rules.specs.Collection.{refused, callOf, askRecords, collection}
 use Rattle.rules.specs.SheetLines.{linesIn, unended, Row}
 use Rattle.rules.specs.SheetRows.{isEmpty, isValue, codeOf, stepRight, parameterRowRight, CallPart, positional, named, star, item, double, entry, isPart, isList, isDict, listBefore, dictBefore, callRowRight}
 use Rattle.rules.specs.SheetInput.{Verdict, right, _else_, unless, judgeSheet, rowsOf, inputMost, parameterLines, callLines, judgeInput}
@@ -30,7 +29,7 @@ use Rattle.rules.specs.SheetOutput.{sheetsOutcome}
 use Rattle.rules.specs.SheetForm.{RightForm, sheetQuestion}
 use Rattle.rules.proofs.LawsListing.{and-left, and-right, and-both}
 use Rattle.rules.proofs.LawsRecord.{headOf, readHead-encodeCall, length-encodeCall, readCall-encodeCall, stepCount-encodeParameters, length-encodeParameters, readParameters-encodeParameters}
-use Rattle.rules.proofs.LawsParameters.{counts-agree}
+use Rattle.rules.proofs.LawsNumbers.{refusesBy, then-by, ask-by, in-range, wider-by, steps-in, binding-in, outcome-by}
 use Rattle.rules.proofs.LawsSheetRows.{else-left, else-right, sheet-holds, StepRows, step-more, kind-right, CallRows, no-rows, call-more}
 
 -- ---- 1 and 2
@@ -181,124 +180,39 @@ module _ (A B : ℕ) (input : List ℕ) (told : judgeInput A B input ≡ right) 
 
 -- ---- by which questions a call is refused
 
--- if at all, by one that a right input leaves
-abbrev only : Answer → Bool
-only fine = true
-only (refuse n d) = sheetQuestion n
+-- 5 to 7 and 15 to 24 are among the questions that a right input leaves
+steps-left : (n : ℕ) → 5 ≤ n → n ≤ 7 → sheetQuestion n ≡ true
+steps-left n l m = ap (λ b. b || leb 11 n && leb n 13 || leb 15 n && leb n 24) (in-range 3 7 n (omega arith) m)
 
-then-only : (a b : Answer) → only a ≡ true → only b ≡ true → only (a then b) ≡ true
-then-only fine b p q = q
-then-only (refuse n d) b p q = p
+binding-left : (n : ℕ) → 15 ≤ n → n ≤ 24 → sheetQuestion n ≡ true
+binding-left n l m =
+    ap (λ b. leb 3 n && leb n 7 || leb 11 n && leb n 13 || b) (in-range 15 24 n l m)
+    ∙ or-true (leb 3 n && leb n 7 || leb 11 n && leb n 13)
 
-ask-only : (n : ℕ) (b : Bool) → sheetQuestion n ≡ true → only (ask n b) ≡ true
-ask-only n true e = refl
-ask-only n false e = e
-
-steps-only : (A : ℕ) (area : List ℕ) (s : Style) (before : List Parameter) (ts : List Step) → only (askSteps A area s before ts) ≡ true
-unfolding askStep
-steps-only A area s before [] = refl
-steps-only A area s before (t ∷ ts) =
-    let five : Answer = ask 5 (mayStand s (act t)) in
-    let six : Answer = ask 6 (hasRoom A before (act t)) in
-    let seven : Answer = ask 7 (nameIsNew area s before (act t) (t .name)) in
-    then-only (askStep A area s before t) (askSteps A area (nextStyle s (act t)) (before ++ added area s (act t) (t .name)) ts)
-    (then-only five (six then seven) (ask-only 5 (mayStand s (act t)) refl)
-    (then-only six seven (ask-only 6 (hasRoom A before (act t)) refl) (ask-only 7 (nameIsNew area s before (act t) (t .name)) refl)))
-    (steps-only A area (nextStyle s (act t)) (before ++ added area s (act t) (t .name)) ts)
-
-parameters-only : (A : ℕ) (cells area : List ℕ) → wholeSteps A cells ≡ true → codesKnown (readParameters cells .steps) ≡ true → only (askParameters A cells area) ≡ true
+parameters-only : (A : ℕ) (cells area : List ℕ) → wholeSteps A cells ≡ true → codesKnown (readParameters cells .steps) ≡ true → refusesBy sheetQuestion (askParameters A cells area) ≡ true
 unfolding askParameters
 parameters-only A cells area whole codes =
-    let third : Answer = ask 3 (namesInside area (readParameters cells)) in
     let fourth : Answer = ask 4 (defaultsRight area (readParameters cells .steps)) in
     let steps : Answer = askSteps A area posOnly [] (readParameters cells .steps) in
-    rw (whole, codes, counts-agree (listOf cells area))
-    (then-only third (fourth then steps then fine) (ask-only 3 (namesInside area (readParameters cells)) refl)
-    (then-only fourth (steps then fine) (ask-only 4 (defaultsRight area (readParameters cells .steps)) refl)
-    (then-only steps fine (steps-only A area posOnly [] (readParameters cells .steps)) refl)))
+    rw (whole, codes)
+    (then-by sheetQuestion (ask 3 (namesInside area (readParameters cells))) (fourth then steps) (ask-by sheetQuestion 3 (namesInside area (readParameters cells)) refl)
+    (then-by sheetQuestion fourth steps (ask-by sheetQuestion 4 (defaultsRight area (readParameters cells .steps)) refl)
+    (wider-by 5 7 sheetQuestion steps-left steps (steps-in A area posOnly [] (readParameters cells .steps)))))
 
-call-only : (B : ℕ) (cells area : List ℕ) → lengthsRight B cells ≡ true → kindsRight (readCall cells) ≡ true → only (askCall B cells area) ≡ true
+call-only : (B : ℕ) (cells area : List ℕ) → lengthsRight B cells ≡ true → kindsRight (readCall cells) ≡ true → refusesBy sheetQuestion (askCall B cells area) ≡ true
 unfolding askCall askForm
 call-only B cells area lengths kinds =
     let eleven : Answer = ask 11 (partsWellFormed area (readCall cells)) in
     let twelve : Answer = ask 12 (entriesDiffer area (readCall cells)) in
     let thirteen : Answer = ask 13 (namesDiffer area (readCall cells)) in
     rw (lengths, kinds)
-    (then-only eleven (twelve then thirteen) (ask-only 11 (partsWellFormed area (readCall cells)) refl)
-    (then-only twelve thirteen (ask-only 12 (entriesDiffer area (readCall cells)) refl) (ask-only 13 (namesDiffer area (readCall cells)) refl)))
-
-repeats-only : (P : List Value) (written : List Named) (i : ℕ) (qs : List Parameter) → only (askRepeats P written i qs) ≡ true
-repeats-only P written i [] = refl
-repeats-only P written i (q ∷ qs) = go (fromP P i q && namedBy written q) (repeats-only P written (suc i) qs)
-  where
-    go : (b : Bool) → only (askRepeats P written (suc i) qs) ≡ true
-        → only (cond b (refuse 16 (name (partOf specArea (q .name)))) (askRepeats P written (suc i) qs)) ≡ true
-    go true h = refl
-    go false h = h
-
-entry-only : (qs : List Parameter) (P : List Value) (before : List Named) (k : Key) → only (askEntry qs P before k) ≡ true
-entry-only qs P before (word t) = go (namesFilled P 0 qs (t .bytes) || among (t .bytes) (textsOf before))
-  where
-    go : (b : Bool) → only (cond b (refuse 19 (name (partOf callArea t))) fine) ≡ true
-    go true = refl
-    go false = refl
-entry-only qs P before (number n) = refl
-
-entries-only : (qs : List Parameter) (P : List Value) (before : List Named) (es : List Entry) → only (askEntries qs P before es) ≡ true
-entries-only qs P before [] = refl
-entries-only qs P before (e ∷ es) =
-    then-only (askEntry qs P before (e .key)) (askEntries qs P (before ++ wordOf (e .key) (e .value)) es) (entry-only qs P before (e .key))
-    (entries-only qs P (before ++ wordOf (e .key) (e .value)) es)
-
-required-only : (qs : List Parameter) (ss : List Slot) → only (askRequired qs ss) ≡ true
-required-only [] ss = refl
-required-only (q ∷ qs) [] = refl
-required-only (q ∷ qs) (s ∷ ss) = go (isRequired (q .kind) && isUnfilled s) (q .style) (required-only qs ss)
-  where
-    go : (b : Bool) (style : Style) → only (askRequired qs ss) ≡ true
-        → only (cond b (refuse (missing style) (name (partOf specArea (q .name)))) (askRequired qs ss)) ≡ true
-    go true posOnly h = refl
-    go true posOrNamed h = refl
-    go true namedOnly h = refl
-    go true noMore h = refl
-    go false style h = h
-
-star-only : (b : Bool) (vs : List Value) → only (askStarRemainder b vs) ≡ true
-star-only true vs = refl
-star-only false [] = refl
-star-only false (v ∷ vs) = refl
-
-named-only : (b : Bool) (vs : List Named) → only (askNamedRemainder b vs) ≡ true
-named-only true vs = refl
-named-only false [] = refl
-named-only false (v ∷ vs) = refl
-
-binding-only : (qs : List Parameter) (c : Call) → only (askBinding qs c) ≡ true
-unfolding askBinding askPlaced
-binding-only qs c =
-    let P : List Value = positionalsOf c in
-    let repeats : Answer = askRepeats P (c .named) 0 qs in
-    let seventeen : Answer = ask 17 (doublePasses (c .double)) in
-    let entries : Answer = askEntries qs P (c .named) (entriesOf (c .double)) in
-    let required : Answer = askRequired qs (place qs P (namedOf c)) in
-    let fromStar : Answer = askStarRemainder (hasArgs qs) (starRemainder qs P) in
-    let fromNames : Answer = askNamedRemainder (hasKwargs qs) (namedRemainder qs (namedOf c)) in
-    then-only (ask 15 (starPasses (c .star))) (repeats then seventeen then entries then required then fromStar then fromNames) (ask-only 15 (starPasses (c .star)) refl)
-    (then-only repeats (seventeen then entries then required then fromStar then fromNames) (repeats-only P (c .named) 0 qs)
-    (then-only seventeen (entries then required then fromStar then fromNames) (ask-only 17 (doublePasses (c .double)) refl)
-    (then-only entries (required then fromStar then fromNames) (entries-only qs P (c .named) (entriesOf (c .double)))
-    (then-only required (fromStar then fromNames) (required-only qs (place qs P (namedOf c)))
-    (then-only fromStar fromNames (star-only (hasArgs qs) (starRemainder qs P)) (named-only (hasKwargs qs) (namedRemainder qs (namedOf c))))))))
+    (then-by sheetQuestion eleven (twelve then thirteen) (ask-by sheetQuestion 11 (partsWellFormed area (readCall cells)) refl)
+    (then-by sheetQuestion twelve thirteen (ask-by sheetQuestion 12 (entriesDiffer area (readCall cells)) refl) (ask-by sheetQuestion 13 (namesDiffer area (readCall cells)) refl)))
 
 -- a board of zeros that is long enough passes 14
 board-passes : (A B : ℕ) → askBoard A B (replicate (boardLeast A B) 0) ≡ fine
 unfolding askBoard
 board-passes A B = rw (length-replicate {A = ℕ} (boardLeast A B) 0, le-leb (boardLeast A B) (boardLeast A B) (omega arith))
-
-outcome-only : (a : Answer) (qs : List Parameter) (P : List Value) (N : List Named) (board : List ℕ) (n : ℕ) (d : Detail)
-    → only a ≡ true → outcomeOf a qs P N board ≡ refused n d → sheetQuestion n ≡ true
-outcome-only fine qs P N board n d h e = let z : _≡_ {A = ℕ} 0 1 = cc in absurd (omega arith)
-outcome-only (refuse m f) qs P N board n d h e = let same : n ≡ m = cc in rw same h
 
 -- a right input's call is refused, if at all, by 3 to 7, 11 to 13 or 15 to 24
 pub right-sheets-refused : (A B : ℕ) (input : List ℕ) → judgeInput A B input ≡ right → (n : ℕ) (d : Detail)
@@ -314,9 +228,9 @@ right-sheets-refused A B input told n d e =
     let c : Call = callOf callCells (s .callArea) in
     let list : Answer = askParameters A specCells (s .specArea) in
     let given : Answer = askCall B callCells (s .callArea) in
-    outcome-only ((list then given then askBoard A B board) then askBinding qs c) qs (positionalsOf c) (namedOf c) board n d
-    (then-only (list then given then askBoard A B board) (askBinding qs c)
-    (then-only list (given then askBoard A B board) (parameters-only A specCells (s .specArea) (form .whole) (form .codes))
-    (then-only given (askBoard A B board) (call-only B callCells (s .callArea) (form .lengths) (form .kinds)) (rw (board-passes A B))))
-    (binding-only qs c))
+    outcome-by sheetQuestion ((list then given then askBoard A B board) then askBinding qs c) qs (positionalsOf c) (namedOf c) board n d
+    (then-by sheetQuestion (list then given then askBoard A B board) (askBinding qs c)
+    (then-by sheetQuestion list (given then askBoard A B board) (parameters-only A specCells (s .specArea) (form .whole) (form .codes))
+    (then-by sheetQuestion given (askBoard A B board) (call-only B callCells (s .callArea) (form .lengths) (form .kinds)) (rw (board-passes A B))))
+    (wider-by 15 24 sheetQuestion binding-left (askBinding qs c) (binding-in qs c)))
     e

@@ -6,6 +6,7 @@ pub mod LawsDigits
 pub mod LawsRecord
 pub mod LawsAnswer
 pub mod LawsNumbers
+pub mod LawsCounts
 pub mod LawsParameters
 pub mod LawsPrinted
 pub mod LawsPlacement
@@ -18,5 +19,6 @@ pub mod LawsReader
 pub mod LawsSheetValue
 pub mod LawsSheetRows
 pub mod LawsSheetForm
+pub mod LawsRetired
 pub mod LawsSheetOutput
 pub mod Demand3

@@ -64,7 +64,7 @@ requiredFilled (q ∷ qs) [] = not (isRequired (q .kind)) && requiredFilled qs [
 requiredFilled (q ∷ qs) (s ∷ ss) = not (isRequired (q .kind) && isUnfilled s) && requiredFilled qs ss
 
 module _ (A B : ℕ) (specCells specBytes callBytes : List ℕ) (P : List Value) (N : List Pair) (board : List ℕ) where
-  -- where demand 3 speaks: a list that passes 1 to 8, at most B well-formed values and B well-formed pairs (a pair's name has 1 to 64
+  -- where demand 3 speaks: a list that passes 1 to 7, at most B well-formed values and B well-formed pairs (a pair's name has 1 to 64
   -- bytes), no name twice, a board that passes 14
   pub record Domain : Type 0 where
     pub list-passes : askParameters A specCells specBytes ≡ fine

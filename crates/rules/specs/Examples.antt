@@ -11,9 +11,9 @@ use Rattle.rules.specs.Value.{Value, valueWidth, valueCells, readValue, 
 use Rattle.rules.specs.Answer.{none, name, count, countAndName, Part, Area, specArea, callArea, partOf}
 use Rattle.rules.specs.ParameterRecord.{Step, ParameterRecord, stepWidth, stepCells, readStep, parameterLength, stepCount, readParameters, encodeParameters}
 use Rattle.rules.specs.CallRecord.{Pair, CallRecord, pairWidth, pairCells, readPair, headWidth, readHead, callLength, readCall, encodeCall, namedIn, keyIn, entryIn, callIn, positionalsOf, namedOf}
-use Rattle.rules.specs.Parameters.{comesBefore, act, positional, nameable, positionalOnly, parametersOf, positionalOnlyCount, positionalCount, hasArgs, hasKwargs}
+use Rattle.rules.specs.Parameters.{comesBefore, act, positional, nameable, parametersOf, positionalCount, hasArgs, hasKwargs}
 use Rattle.rules.specs.Lookup.{names, known}
-use Rattle.rules.specs.ParameterQuestions.{wholeSteps, codesKnown, stepName, namesInside, isZero, defaultsRight, askStep, countsAgree, listOf, askParameters}
+use Rattle.rules.specs.ParameterQuestions.{wholeSteps, codesKnown, stepName, namesInside, isZero, defaultsRight, askStep, listOf, askParameters}
 use Rattle.rules.specs.Placement.{starRemainder, namedRemainder, fromP, slotOf, place, countsOf}
 use Rattle.rules.specs.Board.{slotCells, namedCells, written, boardAfter, boardLeast}
 use Rattle.rules.specs.CallQuestions.{lengthsRight, kindsRight, wellFormedPair, wellFormedEntry, partsWellFormed, entriesDiffer, namesDiffer, askForm, askCall, askBoard}
@@ -71,7 +71,7 @@ boardBefore = replicate 896 5
 
 -- how collection ends at 64 and 64 over a board of 896 cells that hold 5; to unfold it is to unfold all that collection cites
 unfoldable pub collected : List ℕ → List ℕ → ParameterRecord → CallRecord → Outcome
-unfolding startOf sizeOf bytesAt inside isText textIn valueWidth valueCells readValue noValue specText callText wellFormed wellFormedDefault wellFormedArgument wellFormedName wellFormedKey partOf stepWidth stepCells readStep parameterLength stepCount readParameters encodeParameters pairWidth pairCells readPair headWidth readHead callLength readCall encodeCall namedIn keyIn entryIn callIn positionalsOf namedOf comesBefore act positional nameable positionalOnly parametersOf positionalOnlyCount positionalCount hasArgs hasKwargs names known wholeSteps codesKnown stepName namesInside isZero defaultsRight askStep countsAgree listOf askParameters starRemainder namedRemainder fromP slotOf place countsOf slotCells namedCells written boardAfter boardLeast lengthsRight kindsRight wellFormedPair wellFormedEntry partsWellFormed entriesDiffer namesDiffer askForm askCall askBoard textsOf namedBy namesFilled askPlaced askBinding callOf askRecords collection
+unfolding startOf sizeOf bytesAt inside isText textIn valueWidth valueCells readValue noValue specText callText wellFormed wellFormedDefault wellFormedArgument wellFormedName wellFormedKey partOf stepWidth stepCells readStep parameterLength stepCount readParameters encodeParameters pairWidth pairCells readPair headWidth readHead callLength readCall encodeCall namedIn keyIn entryIn callIn positionalsOf namedOf comesBefore act positional nameable parametersOf positionalCount hasArgs hasKwargs names known wholeSteps codesKnown stepName namesInside isZero defaultsRight askStep listOf askParameters starRemainder namedRemainder fromP slotOf place countsOf slotCells namedCells written boardAfter boardLeast lengthsRight kindsRight wellFormedPair wellFormedEntry partsWellFormed entriesDiffer namesDiffer askForm askCall askBoard textsOf namedBy namesFilled askPlaced askBinding callOf askRecords collection
 collected specBytes callBytes list call = collection 64 64 (encodeParameters list) specBytes (encodeCall call) callBytes boardBefore
 
 abbrev pub outcome : ParameterRecord → CallRecord → Outcome

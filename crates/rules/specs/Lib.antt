@@ -9,6 +9,7 @@ pub mod CallRecord
 pub mod Parameters
 pub mod Lookup
 pub mod ParameterQuestions
+pub mod Counts
 pub mod Passed
 pub mod Placement
 pub mod Board
@@ -24,6 +25,7 @@ pub mod AccessExamples
 pub mod Reader
 pub mod Printed
 pub mod PrintedExamples
+pub mod CountExamples
 pub mod SheetValue
 pub mod SheetLines
 pub mod SheetRows
@@ -31,4 +33,5 @@ pub mod SheetInput
 pub mod SheetRecords
 pub mod SheetOutput
 pub mod SheetForm
+pub mod Retired
 pub mod SheetExamples

@@ -1,5 +1,5 @@
--- Questions 1 to 8 (01, the questions, parameter record). A is the number of parameters that a list may have.
--- 1 to 4 are each put to the whole record, 5 to 7 step by step, 8 at the end.
+-- Questions 1 to 7 (01, the questions, parameter record). A is the number of parameters that a list may have.
+-- 1 to 4 are each put to the whole record, 5 to 7 step by step. At the end nothing is asked: number 8 is retired (02, §8; Counts, Retired).
 use mathlib.Core.Bool.{Bool, true, false, not, _&&_, _||_}
 use mathlib.Core.List.{List, [], _∷_, _++_}
 use Prim.Native.Nat.{ℕ, _+_}
@@ -10,7 +10,7 @@ use Rattle.rules.specs.Text.{isText, bytesAt}
 use Rattle.rules.specs.Value.{Value, wellFormedDefault}
 use Rattle.rules.specs.Answer.{Answer, fine, _then_, ask}
 use Rattle.rules.specs.ParameterRecord.{Step, ParameterRecord, stepCount, parameterLength, readParameters}
-use Rattle.rules.specs.Parameters.{Style, posOnly, required, optional, defaulted, args, kwargs, Act, adds, slash, bareStar, unknownCode, act, mayStand, nextStyle, Parameter, plain, takesName, added, parametersOf, positionalOnlyCount, positionalCount}
+use Rattle.rules.specs.Parameters.{Style, posOnly, required, optional, defaulted, args, kwargs, Act, adds, slash, bareStar, unknownCode, act, mayStand, nextStyle, Parameter, plain, takesName, added, parametersOf}
 use Rattle.rules.specs.Lookup.{known}
 
 -- 1: the function's name and whole steps, at most A + 2 of them (01: 66), since two marks may stand beside the parameters
@@ -83,15 +83,11 @@ askSteps A area s before [] = fine
 askSteps A area s before (t ∷ ts) =
     askStep A area s before t then askSteps A area (nextStyle s (act t)) (before ++ added area s (act t) (t .name)) ts
 
--- 8: no more parameters are positional-only than positional
-unfoldable pub countsAgree : List Parameter → Bool
-countsAgree qs = leb (positionalOnlyCount qs) (positionalCount qs)
-
 -- the list that a parameter record describes
 unfoldable pub listOf : List ℕ → List ℕ → List Parameter
 listOf cells area = parametersOf area (readParameters cells)
 
--- questions 1 to 8 of a parameter record, in their order
+-- questions 1 to 7 of a parameter record, in their order
 unfoldable pub askParameters : ℕ → List ℕ → List ℕ → Answer
 askParameters A cells area =
     let r : ParameterRecord = readParameters cells in
@@ -100,4 +96,3 @@ askParameters A cells area =
     then ask 3 (namesInside area r)
     then ask 4 (defaultsRight area (r .steps))
     then askSteps A area posOnly [] (r .steps)
-    then ask 8 (countsAgree (listOf cells area))

@@ -1,4 +1,4 @@
--- What holds of every list that passes 1 to 8, and what binding leans on: `list-positionalFirst`, `list-namesApart` and `list-nameInside` of
+-- What holds of every list that passes 1 to 7, and what binding leans on: `list-positionalFirst`, `list-namesApart` and `list-nameInside` of
 -- proofs/ show it.
 use mathlib.Core.Bool.{Bool, true, cond, not, _&&_, _||_}
 use mathlib.Core.List.{List, [], _∷_, _++_}

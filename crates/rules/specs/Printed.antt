@@ -86,7 +86,7 @@ printed qs =
 unfoldable pub printedLeast : ℕ → ℕ
 printedLeast A = 128 * A
 
--- `parameters_str` asks 1 to 8 and then 29: the output has that many bytes. It answers the length of the printed list
+-- `parameters_str` asks 1 to 7 and then 29: the output has that many bytes. It answers the length of the printed list
 unfoldable pub parametersStr : ℕ → List ℕ → List ℕ → List ℕ → Access
 parametersStr A cells area out =
     accessOf (askParameters A cells area then ask 29 (leb (printedLeast A) (length out))) (length (printed (listOf cells area)))

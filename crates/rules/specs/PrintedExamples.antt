@@ -7,9 +7,9 @@ use Rattle.rules.specs.Text.{payloadOf, startOf, sizeOf, bytesAt, inside
 use Rattle.rules.specs.Value.{valueWidth, valueCells, readValue, wellFormed, wellFormedDefault}
 use Rattle.rules.specs.Answer.{Answer, fine}
 use Rattle.rules.specs.ParameterRecord.{Step, ParameterRecord, stepWidth, stepCells, readStep, parameterLength, stepCount, readParameters, encodeParameters}
-use Rattle.rules.specs.Parameters.{comesBefore, act, positional, nameable, positionalOnly, parametersOf, positionalOnlyCount, positionalCount, hasArgs, hasKwargs}
+use Rattle.rules.specs.Parameters.{comesBefore, act, positional, nameable, positionalOnly, parametersOf, hasArgs, hasKwargs}
 use Rattle.rules.specs.Lookup.{names, known}
-use Rattle.rules.specs.ParameterQuestions.{wholeSteps, codesKnown, stepName, namesInside, isZero, defaultsRight, askStep, countsAgree, listOf, askParameters}
+use Rattle.rules.specs.ParameterQuestions.{wholeSteps, codesKnown, stepName, namesInside, isZero, defaultsRight, askStep, listOf, askParameters}
 use Rattle.rules.specs.Printed.{asterisk, printedName, item, eitherWay, nameOnly, itemsOf, slashItem, starItem, kwargsItem, comma, printed}
 use Rattle.rules.specs.Examples.{specBytes, step, listW, listK}
 
@@ -34,16 +34,16 @@ allSteps =
     steps
     (step 1 (payloadOf 10 1) 0 0 ∷ slash ∷ step 2 (payloadOf 6 4) 0 0 ∷ step 6 0 0 0 ∷ step 1 (payloadOf 1 5) 0 0 ∷ step 7 0 0 0 ∷ [])
 
--- what 1 to 8 answer of a record, and what is printed of it; to unfold them is to unfold all that they cite
+-- what 1 to 7 answer of a record, and what is printed of it; to unfold them is to unfold all that they cite
 unfoldable pub asked : List ℕ → ParameterRecord → Answer
-unfolding startOf sizeOf bytesAt inside isText textIn valueWidth valueCells readValue wellFormed wellFormedDefault stepWidth stepCells readStep parameterLength stepCount readParameters encodeParameters comesBefore act positional nameable positionalOnly parametersOf positionalOnlyCount positionalCount names known wholeSteps codesKnown stepName namesInside isZero defaultsRight askStep countsAgree listOf askParameters
+unfolding startOf sizeOf bytesAt inside isText textIn valueWidth valueCells readValue wellFormed wellFormedDefault stepWidth stepCells readStep parameterLength stepCount readParameters encodeParameters comesBefore act positional nameable positionalOnly parametersOf names known wholeSteps codesKnown stepName namesInside isZero defaultsRight askStep listOf askParameters
 asked area list = askParameters 64 (encodeParameters list) area
 
 unfoldable pub shown : List ℕ → ParameterRecord → List ℕ
 unfolding startOf sizeOf bytesAt textIn valueWidth valueCells readValue stepWidth stepCells readStep parameterLength stepCount readParameters encodeParameters comesBefore act positional nameable positionalOnly parametersOf hasArgs hasKwargs listOf asterisk printedName item eitherWay nameOnly itemsOf slashItem starItem kwargsItem comma printed
 shown area list = printed (listOf (encodeParameters list) area)
 
--- a record that passes 1 to 8 and is printed as these bytes
+-- a record that passes 1 to 7 and is printed as these bytes
 pub record Shown (area : List ℕ) (list : ParameterRecord) (bytes : List ℕ) : Type 0 where
   pub passes : asked area list ≡ fine
   pub prints : shown area list ≡ bytes

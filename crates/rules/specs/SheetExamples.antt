@@ -10,9 +10,9 @@ use Rattle.rules.specs.Value.{valueWidth, valueCells, readValue, noValue
 use Rattle.rules.specs.Answer.{partOf}
 use Rattle.rules.specs.ParameterRecord.{stepWidth, stepCells, readStep, parameterLength, stepCount, readParameters, encodeParameters}
 use Rattle.rules.specs.CallRecord.{pairWidth, pairCells, readPair, headWidth, readHead, callLength, readCall, encodeCall, namedIn, keyIn, entryIn, callIn, positionalsOf, namedOf}
-use Rattle.rules.specs.Parameters.{comesBefore, act, positional, nameable, positionalOnly, parametersOf, positionalOnlyCount, positionalCount, hasArgs, hasKwargs}
+use Rattle.rules.specs.Parameters.{comesBefore, act, positional, nameable, parametersOf, positionalCount, hasArgs, hasKwargs}
 use Rattle.rules.specs.Lookup.{names, known}
-use Rattle.rules.specs.ParameterQuestions.{wholeSteps, codesKnown, stepName, namesInside, isZero, defaultsRight, askStep, countsAgree, listOf, askParameters}
+use Rattle.rules.specs.ParameterQuestions.{wholeSteps, codesKnown, stepName, namesInside, isZero, defaultsRight, askStep, listOf, askParameters}
 use Rattle.rules.specs.Placement.{starRemainder, namedRemainder, fromP, slotOf, place, countsOf}
 use Rattle.rules.specs.Board.{slotCells, namedCells, written, boardAfter, boardLeast}
 use Rattle.rules.specs.CallQuestions.{lengthsRight, kindsRight, wellFormedPair, wellFormedEntry, partsWellFormed, entriesDiffer, namesDiffer, askForm, askCall, askBoard}
@@ -54,7 +54,7 @@ exampleOutput =
 
 -- what `bind` prints at 64 and 64; to unfold it is to unfold all that it cites
 unfoldable pub bindsTo : List ℕ → List ℕ
-unfolding payloadOf startOf sizeOf bytesAt inside isText textIn valueWidth valueCells readValue noValue specText callText wellFormed wellFormedDefault wellFormedArgument wellFormedName wellFormedKey partOf stepWidth stepCells readStep parameterLength stepCount readParameters encodeParameters pairWidth pairCells readPair headWidth readHead callLength readCall encodeCall namedIn keyIn entryIn callIn positionalsOf namedOf comesBefore act positional nameable positionalOnly parametersOf positionalOnlyCount positionalCount hasArgs hasKwargs names known wholeSteps codesKnown stepName namesInside isZero defaultsRight askStep countsAgree listOf askParameters starRemainder namedRemainder fromP slotOf place countsOf slotCells namedCells written boardAfter boardLeast lengthsRight kindsRight wellFormedPair wellFormedEntry partsWellFormed entriesDiffer namesDiffer askForm askCall askBoard textsOf namedBy namesFilled askPlaced askBinding callOf askRecords collection decimal readDecimal printWhole readBits readForm printValue linesIn unended cellsIn threeCells partWord nameWord valueWord columnOf columnsIn headerRight rowIn isValue isDef codeOf stepRight callPart isPart isList isDict isOther fewer listBefore dictBefore callRowRight inputMost parameterLines callLines judgeInput stepTexts stepAt keyText callTexts rowValue namedPair entryPair ofPart callRecord sheetsIn line acceptedText refusalText sheetsText bindText
+unfolding payloadOf startOf sizeOf bytesAt inside isText textIn valueWidth valueCells readValue noValue specText callText wellFormed wellFormedDefault wellFormedArgument wellFormedName wellFormedKey partOf stepWidth stepCells readStep parameterLength stepCount readParameters encodeParameters pairWidth pairCells readPair headWidth readHead callLength readCall encodeCall namedIn keyIn entryIn callIn positionalsOf namedOf comesBefore act positional nameable parametersOf positionalCount hasArgs hasKwargs names known wholeSteps codesKnown stepName namesInside isZero defaultsRight askStep listOf askParameters starRemainder namedRemainder fromP slotOf place countsOf slotCells namedCells written boardAfter boardLeast lengthsRight kindsRight wellFormedPair wellFormedEntry partsWellFormed entriesDiffer namesDiffer askForm askCall askBoard textsOf namedBy namesFilled askPlaced askBinding callOf askRecords collection decimal readDecimal printWhole readBits readForm printValue linesIn unended cellsIn threeCells partWord nameWord valueWord columnOf columnsIn headerRight rowIn isValue isDef codeOf stepRight callPart isPart isList isDict isOther fewer listBefore dictBefore callRowRight inputMost parameterLines callLines judgeInput stepTexts stepAt keyText callTexts rowValue namedPair entryPair ofPart callRecord sheetsIn line acceptedText refusalText sheetsText bindText
 bindsTo input = bindText 64 64 input
 
 pub record SheetExamples : Type 0 where

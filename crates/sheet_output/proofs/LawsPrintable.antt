@@ -1,5 +1,5 @@
 -- Laws of what can be printed (01, sheets), in this order: how long each part of an accepted call's text is (a name has at most 64 bytes, a value
--- 65, a number 20); details, whose names lie inside their areas where the list and the call can be printed; and lists: one that passes 1 to 8
+-- 65, a number 20); details, whose names lie inside their areas where the list and the call can be printed; and lists: one that passes 1 to 7
 -- can be printed. That a call can is said in LawsPassed. Assumes nothing.
 use mathlib.Core.Path.{_≡_, refl, ap, ap₂}
 use mathlib.Core.Bool.{Bool, true, false, cond, not, _&&_, _||_}
@@ -16,7 +16,7 @@ use Rattle.rules.specs.Answer.{Answer, fine, refuse, _then_, ask, Detail, none,
 use Rattle.rules.specs.CallRecord.{Call, Named, Entry, Key, word, number, wordOf, words, entriesOf, positionalsOf, namedOf}
 use Rattle.rules.specs.ParameterRecord.{Step, readParameters}
 use Rattle.rules.specs.Parameters.{Style, posOnly, actOf, act, nextStyle, mayStand, added, addedFrom, parametersOf, Parameter, ParameterKind, required, optional, defaulted, args, kwargs, plain, isRequired, takesPosition, positional, hasArgs, hasKwargs}
-use Rattle.rules.specs.ParameterQuestions.{hasName, stepName, usesRight, askStep, askSteps, askParameters, listOf, hasRoom, nameIsNew, wholeSteps, codesKnown, namesInside, defaultsRight, countsAgree}
+use Rattle.rules.specs.ParameterQuestions.{hasName, stepName, usesRight, askStep, askSteps, askParameters, listOf, hasRoom, nameIsNew, wholeSteps, codesKnown, namesInside, defaultsRight}
 use Rattle.rules.specs.CallQuestions.{askForm, askCall, askBoard, lengthsRight, kindsRight, partsWellFormed, entriesDiffer, namesDiffer}
 use Rattle.rules.specs.CallRecord.{readCall}
 use Rattle.rules.specs.Placement.{Slot, empty, taken, fromDefault, starCount, namedCount, isUnfilled, fromP, place, starRemainder, namedRemainder}
@@ -28,7 +28,7 @@ use Rattle.rules.specs.SheetOutput.{line, slotName, slotText, slotLines, starLi
 use Rattle.sheet_output.specs.Printable.{printable, printableText, printableNamed, printableParameter, printableDefault, AllPrintable, areaOf, partInside, detailInside, answerInside}
 use Rattle.rules.proofs.LawsListing.{and-left, and-right, and-both, all-append, all-behind, all-keep}
 use Rattle.rules.proofs.LawsText.{sameBytes-eq, sameBytes-refl, isText-weaker}
-use Rattle.rules.proofs.LawsAnswer.{then-left, then-right, ask-true}
+use Rattle.rules.proofs.LawsParameters.{names-fine, defaults-fine}
 use Rattle.rules.proofs.LawsDigits.{decimal-length}
 use Rattle.rules.proofs.LawsSheetValue.{print-short}
 use Rattle.rules.proofs.LawsSheetOutput.{text-length, slotName-length, line-length}
@@ -258,15 +258,13 @@ module _ (spec call : List ℕ) where
   unfolding askParameters
   parameters-inside A cells area =
       let steps : Answer = askSteps A area posOnly [] (readParameters cells .steps) in
-      let last : Answer = ask 8 (countsAgree (listOf cells area)) in
       let third : Answer = ask 3 (namesInside area (readParameters cells)) in
       let fourth : Answer = ask 4 (defaultsRight area (readParameters cells .steps)) in
-      then-inside (ask 1 (wholeSteps A cells)) (ask 2 (codesKnown (readParameters cells .steps)) then third then fourth then steps then last) (ask-inside 1 (wholeSteps A cells))
-      (λ e₁. then-inside (ask 2 (codesKnown (readParameters cells .steps))) (third then fourth then steps then last) (ask-inside 2 (codesKnown (readParameters cells .steps)))
-      (λ e₂. then-inside third (fourth then steps then last) (ask-inside 3 (namesInside area (readParameters cells)))
-      (λ e₃. then-inside fourth (steps then last) (ask-inside 4 (defaultsRight area (readParameters cells .steps)))
-      (λ e₄. then-inside steps last (steps-inside A area posOnly [] (readParameters cells .steps))
-      (λ e₅. ask-inside 8 (countsAgree (listOf cells area)))))))
+      then-inside (ask 1 (wholeSteps A cells)) (ask 2 (codesKnown (readParameters cells .steps)) then third then fourth then steps) (ask-inside 1 (wholeSteps A cells))
+      (λ e₁. then-inside (ask 2 (codesKnown (readParameters cells .steps))) (third then fourth then steps) (ask-inside 2 (codesKnown (readParameters cells .steps)))
+      (λ e₂. then-inside third (fourth then steps) (ask-inside 3 (namesInside area (readParameters cells)))
+      (λ e₃. then-inside fourth steps (ask-inside 4 (defaultsRight area (readParameters cells .steps)))
+      (λ e₄. steps-inside A area posOnly [] (readParameters cells .steps)))))
 
   pub call-inside : (B : ℕ) (cells area : List ℕ) → answerInside spec call (askCall B cells area) ≡ true
   unfolding askCall askForm
@@ -282,7 +280,7 @@ module _ (spec call : List ℕ) where
   unfolding askBoard
   board-inside A B board = ask-inside 14 (leb (boardLeast A B) (length board))
 
--- ---- a list that passes 1 to 8 can be printed
+-- ---- a list that passes 1 to 7 can be printed
 
 -- a text of an area is where its payload says
 pub text-printable : (area : List ℕ) (payload : ℕ) → isText 0 area payload ≡ true → printableText area (textIn area payload) ≡ true
@@ -315,20 +313,9 @@ steps-printable area s (t ∷ ts) n u =
     (and-right (usesRight area (act t) (t .name) (t .default)) (all (λ t. usesRight area (act t) (t .name) (t .default)) ts) u))
 
 module _ (A : ℕ) (cells area : List ℕ) (passes : askParameters A cells area ≡ fine) where
-  -- 3 to 8 pass
-  from-third : (ask 3 (namesInside area (readParameters cells)) then ask 4 (defaultsRight area (readParameters cells .steps)) then askSteps A area posOnly [] (readParameters cells .steps) then ask 8 (countsAgree (listOf cells area))) ≡ fine
-  unfolding askParameters
-  from-third =
-      let rest : Answer = ask 3 (namesInside area (readParameters cells)) then ask 4 (defaultsRight area (readParameters cells .steps)) then askSteps A area posOnly [] (readParameters cells .steps) then ask 8 (countsAgree (listOf cells area)) in
-      then-right (ask 2 (codesKnown (readParameters cells .steps))) rest (then-right (ask 1 (wholeSteps A cells)) (ask 2 (codesKnown (readParameters cells .steps)) then rest) passes)
-
   pub parameters-printable : all (printableParameter area) (listOf cells area) ≡ true
   unfolding listOf parametersOf namesInside defaultsRight
   parameters-printable =
-      let last : Answer = askSteps A area posOnly [] (readParameters cells .steps) then ask 8 (countsAgree (listOf cells area)) in
-      let fourth : Answer = ask 4 (defaultsRight area (readParameters cells .steps)) in
-      let third : Answer = ask 3 (namesInside area (readParameters cells)) in
       steps-printable area posOnly (readParameters cells .steps)
-      (and-right (isText 1 area (readParameters cells .function)) (all (stepName area) (readParameters cells .steps))
-      (ask-true 3 (namesInside area (readParameters cells)) (then-left third (fourth then last) from-third)))
-      (ask-true 4 (defaultsRight area (readParameters cells .steps)) (then-left fourth last (then-right third (fourth then last) from-third)))
+      (and-right (isText 1 area (readParameters cells .function)) (all (stepName area) (readParameters cells .steps)) (names-fine A cells area passes))
+      (defaults-fine A cells area passes)

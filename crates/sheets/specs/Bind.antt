@@ -29,7 +29,7 @@ recordsText specCells spec cells call =
     rules.outcomeText spec call (listOf specCells spec) (positionalsOf (callOf cells call)) (namedOf (callOf cells call))
     (collection 64 64 specCells spec cells call (replicate 896 0))
 
--- a list to bind against, which a parameter record describes that passes 1 to 8
+-- a list to bind against, which a parameter record describes that passes 1 to 7
 pub record ListReady (spec : List ℕ) (l : ParametersSpec) : Type 0 where
   pub prepared : Prepared spec l
   pub cells : List ℕ

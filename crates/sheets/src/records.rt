@@ -93,7 +93,7 @@ pub(crate) fn bind_sheets(input: &[u8], places: Places, out: &mut [u8]) -> usize
     )
 }
 
-// The list, or the question of 1 to 8 that refuses it.
+// The list, or the question of 1 to 7 that refuses it.
 fn bind_records<'a>(
     spec_cells: &'a [u64],
     spec: &'a [u8],

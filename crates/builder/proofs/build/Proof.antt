@@ -3,7 +3,7 @@
 use mathlib.Core.Path.{sym, _∙_}
 use borrow.Author.Tests.{not-true, not-false}
 use borrow.Author.Needs.{needs}
-use Rattle.builder.proofs.LawsBuild.{refused-list, ask-1, ask-2, ask-3, ask-4, ask-5, ask-8}
+use Rattle.builder.proofs.LawsBuild.{refused-list, ask-1, ask-2, ask-3, ask-4, ask-5, all-passed}
 use Rattle.builder.proofs.build.Statement.{statement}
 use Rattle.builder.proofs.build.Tie as tie
 
@@ -55,7 +55,7 @@ returns-5 c =
 returns-6 : tie.Need-returns-6
 returns-6 c =
     let a = c .before .before .before .before .before .before .before .before .before .before .before .before .before .before .args in
-    ask-8 (a .cells .now) (a .area .now)
+    all-passed (a .cells .now) (a .area .now)
     (sym (c .before .before .before .before .before .before .before .before .before .before .before .whole-steps .ensures) ∙ not-false _ (c .before .before .before .before .before .before .before .before .before .before .if1 .left))
     (sym (c .before .before .before .before .before .before .before .before .before .codes-known .ensures) ∙ not-false _ (c .before .before .before .before .before .before .before .before .if2 .left))
     (sym (c .before .before .before .before .before .before .before .names-inside .ensures) ∙ not-false _ (c .before .before .before .before .before .before .if3 .left))

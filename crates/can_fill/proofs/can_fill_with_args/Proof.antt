@@ -1,4 +1,4 @@
--- `can_fill::can_fill_with_args` meets its contract: a refusal of 1 to 8 or of 9 to 11 is handed on, and what passed them gives
+-- `can_fill::can_fill_with_args` meets its contract: a refusal of 1 to 7 or of 9 to 11 is handed on, and what passed them gives
 -- the inner function what it requires. Assumes nothing.
 use mathlib.Core.Path.{_≡_, sym, ap, _∙_}
 use Rattle.rules.specs.Answer.{fine, none}

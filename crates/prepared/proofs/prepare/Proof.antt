@@ -1,4 +1,4 @@
--- `prepared::prepare` meets its contract: a refusal of 1 to 8 is handed on, and otherwise the built list is written where there is room.
+-- `prepared::prepare` meets its contract: a refusal of 1 to 7 is handed on, and otherwise the built list is written where there is room.
 -- Assumes nothing.
 use mathlib.Core.Path.{sym, ap, _∙_}
 use native.Mathlib.Omega.{arith}

@@ -1,4 +1,4 @@
--- `collector::collect::collect` meets its contract: a refusal of 1 to 8 is handed on, and otherwise the list is one to bind against.
+-- `collector::collect::collect` meets its contract: a refusal of 1 to 7 is handed on, and otherwise the list is one to bind against.
 -- Assumes nothing.
 use mathlib.Core.Path.{sym, ap, subst, _∙_}
 use Rattle.cells.specs.Answer.{answerOf}

@@ -18,6 +18,7 @@ returns c =
             room = omega arith;
             positionalOnly = refl;
             positional = refl;
+            within = omega arith;
             args = refl;
             kwargs = refl;
             sofar = (refl, refl, refl, refl);
