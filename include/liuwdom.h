@@ -27,7 +27,8 @@
  *
  * The answer. Each function but liuwdom_read_is_eof writes all eight cells of `answer`, whatever happens, and returns the first:
  *
- *   0      the number: 0 answered, 1 to 30 refused by that question of 01, LIUWDOM_NOT_PREPARED, LIUWDOM_NO_ROOM
+ *   0      the number: 0 answered, 1 to 30 refused by that question of 01, LIUWDOM_NOT_PREPARED, LIUWDOM_NO_ROOM. 8 is retired: nothing is
+ *          refused by it, and no later question takes it
  *   1      the area of the name in a refusal's detail: LIUWDOM_NO_AREA, LIUWDOM_SPEC_AREA (16, 20 to 22) or LIUWDOM_CALL_AREA (19, 24)
  *   2, 3   where that name starts in its area, and its length
  *   4 to 7 what is answered, as each function says; refused by 23 and 24: how many are left over (4); by 26: least, most and got (4, 5, 6);
@@ -64,7 +65,7 @@
 #define LIUWDOM_SPEC_AREA 1
 #define LIUWDOM_CALL_AREA 2
 
-/* Numbers that are the library's own, beside 01's 1 to 30. */
+/* Numbers that are the library's own, beside 01's 1 to 30 (8 is retired). */
 #define LIUWDOM_NOT_PREPARED 100
 #define LIUWDOM_NO_ROOM 101
 
@@ -112,7 +113,7 @@ uint64_t liuwdom_can_fill(const uint64_t *spec_cells, size_t spec_cells_len, con
                           size_t call_cells_len, const uint8_t *call, size_t call_len, uint64_t *answer);
 
 /*
- * Prepares a parameter list, so that many calls can be bound against it. Asks 1 to 8, then LIUWDOM_NO_ROOM below LIUWDOM_PREPARED cells.
+ * Prepares a parameter list, so that many calls can be bound against it. Asks 1 to 7, then LIUWDOM_NO_ROOM below LIUWDOM_PREPARED cells.
  * answer[4]: how many cells were written, from the first. Lend them (cells behind them are not looked at) and the same spec area to
  * liuwdom_bind_prepared. They are for the build of the library that wrote them, and no format to keep.
  */
@@ -129,7 +130,7 @@ uint64_t liuwdom_bind_prepared(const uint64_t *prepared, size_t prepared_len, co
                                size_t board_len, uint64_t *answer);
 
 /*
- * The index of the parameter that can be named so. Asks 1 to 8.
+ * The index of the parameter that can be named so. Asks 1 to 7.
  * answer[4]: 1 if there is one, else 0; answer[5]: its index, counted over parameters, marks aside.
  */
 uint64_t liuwdom_lookup(const uint64_t *spec_cells, size_t spec_cells_len, const uint8_t *spec, size_t spec_len, const uint8_t *name,
@@ -165,7 +166,7 @@ uint64_t liuwdom_positional(const uint64_t *call_cells, size_t call_cells_len, c
                             uint64_t *out, size_t out_len, uint64_t *answer);
 
 /*
- * Prints a parameter list, such as `block, /, start, minutes = ..., **kwargs`. Asks 1 to 8, then 29 below LIUWDOM_PRINTED bytes.
+ * Prints a parameter list, such as `block, /, start, minutes = ..., **kwargs`. Asks 1 to 7, then 29 below LIUWDOM_PRINTED bytes.
  * answer[4]: how many bytes were written; there is no byte 0 behind them.
  */
 uint64_t liuwdom_parameters_str(const uint64_t *spec_cells, size_t spec_cells_len, const uint8_t *spec, size_t spec_len, uint8_t *out,

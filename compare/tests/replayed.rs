@@ -1,5 +1,5 @@
 // The oracle against the cases that our own programs replay: theirs were made from the rules, by others, and without it. Those outside
-// 01's domain (records that 1 to 4, 6 or 8 to 12 refuse, short boards, texts that are no UTF-8) are passed over.
+// 01's domain (records that 1 to 4, 6 or 9 to 12 refuse, short boards, texts that are no UTF-8) are passed over.
 use compare::case::Case;
 use compare::port::Answer;
 use compare::port::Port;

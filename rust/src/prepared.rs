@@ -7,7 +7,7 @@ use crate::refusal::Refusal;
 use crate::signature::Signature;
 use crate::value::Areas;
 
-/// A parameter list that passed 1 to 8, ready for calls.
+/// A parameter list that passed 1 to 7, ready for calls.
 ///
 /// ```
 /// use liuwdom::{collect, Call, Prepared, Signature};
@@ -26,7 +26,7 @@ pub struct Prepared {
 }
 
 impl Prepared {
-    /// Judges a parameter list (1 to 8).
+    /// Judges a parameter list (1 to 7).
     pub fn new(signature: &Signature) -> Result<Prepared, Refusal> {
         let spec = signature.record();
         let mut cells = vec![0; PREPARED];

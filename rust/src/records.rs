@@ -116,7 +116,7 @@ impl Place {
 /// A refusal as the answer's cells tell it.
 #[derive(Clone, Copy, Debug, PartialEq, Eq)]
 pub struct RawRefusal {
-    /// 1 to 30 as in document 01, [`NOT_PREPARED`] or [`NO_ROOM`].
+    /// 1 to 30 as in document 01 (8 is retired), [`NOT_PREPARED`] or [`NO_ROOM`].
     pub number: u64,
     pub name: Option<Place>,
     /// The detail's numbers: the count of 23 and 24; least, most and got of 26; for 27 and 28 the third is where the reader stands; the line of

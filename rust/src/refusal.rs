@@ -1,4 +1,4 @@
-//! Refusals: one variant for each number of document 01, with its detail.
+//! Refusals: one variant for each number of document 01, with its detail. Number 8 is retired and has none.
 
 use std::error::Error;
 use std::fmt::{self, Display, Formatter};
@@ -22,8 +22,6 @@ pub enum Refusal {
     TooManyParameters,
     /// 7: two parameters that can be named have one name.
     RepeatedParameterName,
-    /// 8: more positional-only than positional parameters; no list comes to that.
-    WrongPositionalCount,
     /// 9: more than 64 arguments of a sort, or other cells than they call for.
     TooManyArguments,
     /// 10: what stands behind a star is of no known kind, or has values where it can have none.
@@ -117,7 +115,6 @@ impl Refusal {
             5 => Refusal::MisplacedStep,
             6 => Refusal::TooManyParameters,
             7 => Refusal::RepeatedParameterName,
-            8 => Refusal::WrongPositionalCount,
             9 => Refusal::TooManyArguments,
             10 => Refusal::UnknownStarKind,
             11 => Refusal::BadArgument,
@@ -147,7 +144,6 @@ impl Refusal {
             Refusal::MisplacedStep => 5,
             Refusal::TooManyParameters => 6,
             Refusal::RepeatedParameterName => 7,
-            Refusal::WrongPositionalCount => 8,
             Refusal::TooManyArguments => 9,
             Refusal::UnknownStarKind => 10,
             Refusal::BadArgument => 11,
@@ -198,7 +194,6 @@ impl Refusal {
             Refusal::MisplacedStep => "a step of the list may not stand there",
             Refusal::TooManyParameters => "the list has more than 64 parameters",
             Refusal::RepeatedParameterName => "two parameters that can be named have one name",
-            Refusal::WrongPositionalCount => "more positional-only than positional parameters",
             Refusal::TooManyArguments => "the call has more than 64 of a sort, or other cells",
             Refusal::UnknownStarKind => "what stands behind a star is of no known sort",
             Refusal::BadArgument => "something in the call is no proper value, name or key",
@@ -271,10 +266,16 @@ mod tests {
     #[test]
     fn each_number_has_its_refusal() {
         let mut told = HashSet::new();
-        for number in (1..=30).chain([NOT_PREPARED, NO_ROOM]) {
+        for number in (1..=7).chain(9..=30).chain([NOT_PREPARED, NO_ROOM]) {
             assert_eq!(of(number).number(), number);
             assert!(told.insert(of(number).to_string()));
         }
+    }
+
+    #[test]
+    #[should_panic(expected = "the library has no refusal 8")]
+    fn eight_is_retired() {
+        of(8);
     }
 
     #[test]

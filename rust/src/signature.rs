@@ -186,14 +186,14 @@ impl Signature {
         })
     }
 
-    /// The index of the parameter that can be named so (1 to 8).
+    /// The index of the parameter that can be named so (1 to 7).
     pub fn lookup(&self, name: impl AsRef<[u8]>) -> Result<Option<usize>, Refusal> {
         let spec = self.record();
         records::lookup_cells(&spec.cells, &spec.area, name.as_ref())
             .map_err(|refused| Refusal::of(refused, &spec.area, b""))
     }
 
-    /// The list as it is printed (1 to 8).
+    /// The list as it is printed (1 to 7).
     pub fn parameters_str(&self) -> Result<Vec<u8>, Refusal> {
         let spec = self.record();
         let mut out = vec![0; PRINTED];
