@@ -19,6 +19,7 @@ use Rattle.builder.specs.Record.{stepAt}
 use Rattle.cells.specs.Answer.{answerOf}
 use Rattle.builder.specs.Spec.{Built, Empty, Stepping, styleIn, listIn, finished}
 use Rattle.builder.specs.Build.{Taking, IsList, NoList, Building}
+use Rattle.rules.proofs.LawsCounts.{step-counts}
 use Rattle.cells.proofs.LawsListed.{listed-next, listed-end}
 use Rattle.builder.proofs.LawsRecord.{steps-listed}
 use Rattle.builder.proofs.LawsSpec.{never-fine, never-refused}
@@ -89,6 +90,7 @@ module _ (cells area : List ℕ) where
       record {
         answer = ap answerOf (none .answer) ∙ e;
         fine = λ f. never-fine n (sym (none .answer) ∙ f);
+        within = λ f. never-fine n (sym (none .answer) ∙ f);
         refused = λ k f. none .list;
       }
 
@@ -116,13 +118,14 @@ module _ (cells area : List ℕ) where
           unfolding askParameters
           ask-5 n e = sym (rw (one, two, three, four, ← taking .answer, e))
 
-          -- the list of the last state
+          -- the list of the last state, of which nothing more is asked: that its counts agree is the law of all step lists
           pub all-passed : (l : ParametersSpec) → t .answer ≡ Fine → l ≡ finished (t .builder) → Building cells area (record { answer = Fine; list = l })
-          unfolding askParameters
+          unfolding askParameters listOf parametersOf
           all-passed l e is =
               record {
                 answer = sym (rw (one, two, three, four, ← taking .answer, e));
                 fine = λ f. rw (is, ← taking .list e) is-list;
+                within = λ f. rw (is, taking .built .positionalOnly, taking .built .positional, taking .list e) (step-counts area .only-within (readParameters cells .steps));
                 refused = λ n f. never-refused n f;
               }
             where

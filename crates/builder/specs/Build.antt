@@ -38,4 +38,6 @@ pub record NoList (n : ℕ) (r : Finished) : Type 0 where
 pub record Building (cells area : List ℕ) (r : Finished) : Type 0 where
   pub answer : answerOf (r .answer) ≡ askParameters 64 cells area
   pub fine : r .answer ≡ Fine → IsList area (r .list) (listOf cells area)
+  -- what the Rust asserts of a list that it finishes; it holds of every list of steps, so nothing asks for it (02, §8)
+  pub within : r .answer ≡ Fine → r .list .indices .«num_positional_only» ≤ r .list .indices .«num_positional»
   pub refused : (n : ℕ) → r .answer ≡ Refused n → r .list ≡ emptyList

@@ -273,8 +273,8 @@ impl ParametersSpecBuilder {
         pushed.with(CurrentParameterStyle::NoMore, args, Index::At(index))
     }
 
-    // The finished list. The Rust asserts here that `positional_only` is at most `positional`; every step keeps that (`Built`), so nothing is
-    // asked (02, §8).
+    // The finished list. The Rust asserts here that `positional_only` is at most `positional`: that holds after every step (`Built`) and of each
+    // list that `build` hands out (`Building`), so nothing is asked (02, §8).
     pub fn finish(self) -> ParametersSpec
         ensures { λ r. ⌜ r ≡ finished self ⌝ }
     {
