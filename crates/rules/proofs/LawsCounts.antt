@@ -1,6 +1,6 @@
 -- How steps move the two counts of a list (02, §8; specs/Counts), in this order: the counts of two lists joined; a plain parameter under PosOnly;
--- what comes after PosOnly; one step, which leaves no more positional-only parameters than positional ones where there were none before it; all
--- steps, one after the other. No step is asked whether it may stand there. Assumes nothing.
+-- what comes after PosOnly; one step, which keeps that no more parameters are positional-only than positional; all steps, one after the other.
+-- No step is asked whether it may stand there. Assumes nothing.
 use mathlib.Core.Path.{_≡_, refl, ap, _∙_}
 use mathlib.Core.Bool.{Bool, true, false, cond, _&&_, false≢true}
 use mathlib.Core.List.{List, [], _∷_, _++_, append-assoc, append-nil}
@@ -30,10 +30,13 @@ module _ (area : List ℕ) where
   unfolding positionalOnlyCount positionalCount positionalOnly positional comesBefore
   adds-both k name e = (rw e, rw e)
 
-  -- and of neither, where it is not
-  adds-neither : (k : ParameterKind) (name : ℕ) → plain k ≡ false → (positionalOnlyCount (added area posOnly (adds k) name) ≡ 0) × (positionalCount (added area posOnly (adds k) name) ≡ 0)
+  -- and whatever it is, it is one of both or of neither
+  adds-alike : (a : Act) (name : ℕ) → positionalOnlyCount (added area posOnly a name) ≡ positionalCount (added area posOnly a name)
   unfolding positionalOnlyCount positionalCount positionalOnly positional comesBefore
-  adds-neither k name e = (rw e, rw e)
+  adds-alike (adds k) name = refl
+  adds-alike slash name = refl
+  adds-alike bareStar name = refl
+  adds-alike unknownCode name = refl
 
   both-rise : (before : List Parameter) (k : ParameterKind) (name : ℕ) → plain k ≡ true
       → (positionalOnlyCount (before ++ added area posOnly (adds k) name) ≡ positionalOnlyCount before + 1)
@@ -98,21 +101,14 @@ module _ (area : List ℕ) where
       omega (arith, only-append before (added area s a name), positional-append before (added area s a name), adds-none s a name e)
 
   -- one under PosOnly raises both by one, or neither
-  first-within : (before : List Parameter) (k : ParameterKind) (name : ℕ) → Within before → Within (before ++ added area posOnly (adds k) name)
-  first-within before k name h = go (plain k) refl
-    where
-      go : (p : Bool) → plain k ≡ p → Within (before ++ added area posOnly (adds k) name)
-      go true e = omega (arith, both-rise before k name e .0, both-rise before k name e .1)
-      go false e =
-          omega (arith, only-append before (added area posOnly (adds k) name), positional-append before (added area posOnly (adds k) name), adds-neither k name e .0)
+  first-within : (before : List Parameter) (a : Act) (name : ℕ) → Within before → Within (before ++ added area posOnly a name)
+  first-within before a name h =
+      omega (arith, only-append before (added area posOnly a name), positional-append before (added area posOnly a name), adds-alike a name)
 
   -- so no step takes it away
   pub step-within : (before : List Parameter) (s : Style) (a : Act) (name : ℕ) → Within before → Within (before ++ added area s a name)
   unfolding comesBefore
-  step-within before posOnly (adds k) name h = first-within before k name h
-  step-within before posOnly slash name h = rw (append-nil before) h
-  step-within before posOnly bareStar name h = rw (append-nil before) h
-  step-within before posOnly unknownCode name h = rw (append-nil before) h
+  step-within before posOnly a name h = first-within before a name h
   step-within before posOrNamed a name h = past-within before posOrNamed a name refl h
   step-within before namedOnly a name h = past-within before namedOnly a name refl h
   step-within before noMore a name h = past-within before noMore a name refl h
