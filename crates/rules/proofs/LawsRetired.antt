@@ -26,7 +26,7 @@ use Rattle.rules.specs.SheetRows.{isEmpty, parameterRowRight, callRowRig
 use Rattle.rules.specs.SheetInput.{Verdict, right, bad, _else_, unless, judgeRows, judgeSheet, inputMost, parameterLines, callLines, judgeInput}
 use Rattle.rules.specs.Retired.{EightRetired}
 use Rattle.rules.proofs.LawsCounts.{step-counts}
-use Rattle.rules.proofs.LawsNumbers.{refusesBy, then-by, ask-by, number-by, wider-by, outcome-by, parameters-in, form-in, call-in, board-in, entries-in, named-in, binding-in}
+use Rattle.rules.proofs.LawsNumbers.{refusesBy, refusesIn, then-by, ask-by, number-by, wider-by, outcome-by, parameters-in, form-in, call-in, board-in, entries-in, named-in, binding-in}
 
 -- ---- asked, it would refuse nothing
 
@@ -51,25 +51,21 @@ other n = not (eqb n 8)
 not-8 : (n : ℕ) → (n ≡ 8 → ⊥) → other n ≡ true
 not-8 n h = ap not (ne-eqb n 8 h)
 
-below : (n : ℕ) → 1 ≤ n → n ≤ 7 → other n ≡ true
-below n l m = not-8 n (λ e. omega arith)
-
--- from 9 on
-above : (least : ℕ) → 9 ≤ least → (most n : ℕ) → least ≤ n → n ≤ most → other n ≡ true
-above least h most n l m = not-8 n (λ e. omega arith)
-
 list-other : (A : ℕ) (cells area : List ℕ) → refusesBy other (askParameters A cells area) ≡ true
-list-other A cells area = wider-by 1 7 other below (askParameters A cells area) (parameters-in A cells area)
+list-other A cells area = wider-by 1 7 other (λ n l m. not-8 n (λ e. omega arith)) (askParameters A cells area) (parameters-in A cells area)
+
+-- a chain of questions from 9 on
+later-other : (least most : ℕ) → 9 ≤ least → (a : Answer) → refusesIn least most a ≡ true → refusesBy other a ≡ true
+later-other least most h a e = wider-by least most other (λ n l m. not-8 n (λ f. omega arith)) a e
 
 call-other : (B : ℕ) (cells area : List ℕ) → refusesBy other (askCall B cells area) ≡ true
-call-other B cells area = wider-by 9 13 other (above 9 (omega arith) 13) (askCall B cells area) (call-in B cells area)
+call-other B cells area = later-other 9 13 (omega arith) (askCall B cells area) (call-in B cells area)
 
 board-other : (A B : ℕ) (board : List ℕ) → refusesBy other (askBoard A B board) ≡ true
-board-other A B board = wider-by 14 14 other (above 14 (omega arith) 14) (askBoard A B board) (board-in A B board)
+board-other A B board = later-other 14 14 (omega arith) (askBoard A B board) (board-in A B board)
 
--- 15 to 24
-binding-other : (a : Answer) → refusesBy (λ n. leb 15 n && leb n 24) a ≡ true → refusesBy other a ≡ true
-binding-other a e = wider-by 15 24 other (above 15 (omega arith) 24) a e
+binding-other : (a : Answer) → refusesIn 15 24 a ≡ true → refusesBy other a ≡ true
+binding-other a e = later-other 15 24 (omega arith) a e
 
 -- ---- records
 
@@ -97,7 +93,7 @@ unfolding fillable
 filled A B specCells spec callCells call d e =
     filling-other (askParameters A specCells spec then askForm B callCells call) _ d
     (then-by other (askParameters A specCells spec) (askForm B callCells call) (list-other A specCells spec)
-    (wider-by 9 11 other (above 9 (omega arith) 11) (askForm B callCells call) (form-in B callCells call)))
+    (later-other 9 11 (omega arith) (askForm B callCells call) (form-in B callCells call)))
     e
 
 -- ---- what an accessor answers, and the printed list
