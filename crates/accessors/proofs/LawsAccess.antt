@@ -15,13 +15,13 @@ use lib.ListN.{length}
 use Rattle.rules.specs.Cells.{over}
 use Rattle.rules.specs.Answer.{Answer, fine, refuse, none, Detail, _then_, ask}
 use Rattle.rules.specs.CallRecord.{Head, readHead}
-use Rattle.rules.specs.Board.{boardLeast, boardLeast-64}
+use Rattle.rules.specs.Board.{boardLeast-64}
 use Rattle.rules.specs.CallQuestions.{askCall, askBoard}
 use Rattle.rules.specs.Binding.{starPasses, doublePasses}
 use Rattle.rules.specs.Collection.{callOf}
 use Rattle.rules.specs.Accessors.{denied, gives, accessOf, askWriting, len}
 use Rattle.rules.proofs.LawsAnswer.{then-left, then-right, ask-true}
-use Rattle.rules.proofs.LawsNumbers.{numberIn, refusesIn, then-by, ask-by, number-by, wider-in, call-in}
+use Rattle.rules.proofs.LawsNumbers.{numberIn, refusesIn, then-by, number-by, wider-in, call-in, board-in}
 use Rattle.calls.proofs.LawsNamed.{passed-star, passed-double}
 use Rattle.accessors.specs.Answer.{isNumbered, accessIn, ofName, Accessing}
 use Rattle.accessors.specs.declared.answer.Accessed.{Accessed}
@@ -48,10 +48,10 @@ call-numbered cells area n e =
 module _ (cells area out : List ℕ) where
   -- and what 9 to 14 do
   writing-in : refusesIn 9 14 (askWriting 64 64 cells area out) ≡ true
-  unfolding askWriting askBoard
+  unfolding askWriting
   writing-in =
       then-by (numberIn 9 14) (askCall 64 cells area) (askBoard 64 64 out) (wider-in 9 13 9 14 (askCall 64 cells area) (omega arith) (omega arith) (call-in 64 cells area))
-      (ask-by (numberIn 9 14) 14 (leb (boardLeast 64 64) (length out)) refl)
+      (wider-in 14 14 9 14 (askBoard 64 64 out) (omega arith) (omega arith) (board-in 64 64 out))
 
   pub writing-numbered : (n : ℕ) → askWriting 64 64 cells area out ≡ refuse n none → isNumbered (Record n) ≡ true
   writing-numbered n e = ap (λ b. b || eqb n 25) (number-by (numberIn 9 14) (askWriting 64 64 cells area out) n none writing-in e)

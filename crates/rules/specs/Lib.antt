@@ -1,4 +1,5 @@
--- The definitions of document 01, in its order. Each file begins with the section that it transcribes.
+-- The definitions of document 01, in its order, as the landed requests of document 02 amend them. Each file begins with the section that it
+-- transcribes.
 pub mod Listing
 pub mod Cells
 pub mod Text
