@@ -12,7 +12,7 @@ use borrow.Author.Tests.{ltb-false, lt-ltb, le-ltb, eq-eqb, ne-eqb, eqb-true, eq
 use lib.Dec.{ltb, eqb}
 use lib.ListN.{length, getD, set, length-set}
 use lib.Seq.{getD-set-same, getD-set-other}
-use Rattle.rules.specs.Listing.{all, tally, anyFrom}
+use Rattle.rules.specs.Listing.{all, tally, firstIndex, anyFrom}
 use Rattle.rules.specs.Value.{noValue}
 use Rattle.rules.specs.Parameters.{Parameter, positional, positionalCount, isRequired, hasArgs, hasKwargs, argsIndex, kwargsIndex}
 use Rattle.rules.specs.Lookup.{names, known, find, at, unknown}
@@ -20,6 +20,7 @@ use Rattle.rules.specs.Passed.{positionalFirst, namesApart}
 use Rattle.rules.specs.Placement.{fromP}
 use Rattle.rules.specs.CanFill.{fillings, filledTwice, leftEmpty}
 use Rattle.rules.proofs.LawsListing.{and-left, and-right, and-no-left, and-no-right, or-neither, tally-append}
+use Rattle.rules.proofs.LawsIndex.{firstIndex-from}
 use Rattle.rules.proofs.LawsFound.{fromP-at}
 use Rattle.cells.specs.Listed.{listed}
 use Rattle.builder.specs.Spec.{indexOf}
@@ -31,9 +32,8 @@ use Rattle.cells.proofs.LawsListed.{length-listed, tally-snoc, getD-listed}
 use Rattle.lookup.specs.declared.Finding.{Finding}
 use Rattle.lookup.specs.declared.Finding.the-variants.{At, Unknown}
 use Rattle.lookup.specs.Lookup.{findingOf}
-use Rattle.findings.specs.Found.{firstIndex, firstMissing}
+use Rattle.findings.specs.Found.{firstMissing}
 use Rattle.can_fill.specs.CanFill.{isThere, freeFor, namedAfter}
-use Rattle.findings.proofs.LawsIndex.{firstIndex-from}
 use Rattle.findings.proofs.LawsAsked.{isSome, any-first}
 use Rattle.findings.proofs.LawsNames.{anyParameter}
 use Rattle.findings.proofs.LawsKinds.{required-code, args-found, kwargs-found}

@@ -8,14 +8,13 @@ use Prim.Native.Nat.{ℕ, suc, _+_, _<_, suc-le-suc}
 use native.Mathlib.Nat.{add-zero}
 use native.Mathlib.Omega.{arith}
 use lib.ListN.{length, getD}
-use Rattle.rules.specs.Listing.{anyFrom, mapFrom}
+use Rattle.rules.specs.Listing.{firstIndex, anyFrom, mapFrom}
 use Rattle.rules.specs.Value.{Value}
 use Rattle.rules.specs.Answer.{Answer, fine, refuse, name, partOf, specArea}
 use Rattle.rules.specs.CallRecord.{Named}
 use Rattle.rules.specs.Parameters.{Parameter, isRequired}
 use Rattle.rules.specs.Placement.{Slot, isUnfilled, fromP}
 use Rattle.rules.specs.Binding.{namedBy, askRepeats, missing, askRequired}
-use Rattle.findings.specs.Found.{firstIndex}
 
 -- the refusal for the parameter at an index
 abbrev pub repeatedAt : (ℕ → Parameter) → Option ℕ → Answer

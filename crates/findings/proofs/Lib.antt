@@ -1,5 +1,4 @@
 -- Laws of findings, by subject.
-pub mod LawsIndex
 pub mod LawsResolved
 pub mod LawsAsked
 pub mod LawsNames

@@ -1,15 +1,11 @@
 -- The first slot of a kind, by index: what the searches over codes and sources find.
-use mathlib.Core.Bool.{Bool, cond, not, _&&_}
+use mathlib.Core.Bool.{not, _&&_}
 use mathlib.Core.List.{List}
-use mathlib.Core.Option.{Option, none, some}
-use Prim.Native.Nat.{ℕ, zero, suc}
+use mathlib.Core.Option.{Option}
+use Prim.Native.Nat.{ℕ}
 use lib.Dec.{eqb}
 use lib.ListN.{getD}
-
--- the first of `count` indices from k on that passes a test
-abbrev pub firstIndex : (ℕ → Bool) → ℕ → ℕ → Option ℕ
-firstIndex test k zero = none
-firstIndex test k (suc count) = cond (test k) (some k) (firstIndex test (suc k) count)
+use Rattle.rules.specs.Listing.{firstIndex}
 
 unfoldable pub firstNamed : List ℕ → ℕ → ℕ → Option ℕ
 firstNamed sources k count = firstIndex (λ i. not (eqb (getD sources i 0) 0)) k count

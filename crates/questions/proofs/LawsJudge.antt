@@ -1,15 +1,16 @@
 -- Laws of the questions of binding as the code asks them: what it answers is what 15 to 24 answer.
 -- Assumes nothing.
 use mathlib.Core.Path.{_≡_, refl}
-use mathlib.Core.Bool.{Bool, true, false, cond, not, _&&_, false≢true}
+use mathlib.Core.Bool.{true, false, not, _&&_, false≢true}
 use mathlib.Core.List.{List}
 use mathlib.Core.Option.{Option, none, some}
-use Prim.Native.Nat.{ℕ, zero, suc, _+_, _-_, _≤_, _<_}
+use Prim.Native.Nat.{ℕ, zero, suc, _-_, _≤_, _<_}
 use native.Mathlib.Omega.{arith}
 use borrow.Author.Tests.{ltb-true, le-ltb}
 use lib.Dec.{eqb}
 use lib.ListN.{getD}
-use Rattle.findings.specs.Found.{firstIndex, firstNamed, firstMissing}
+use Rattle.rules.proofs.LawsIndex.{firstIndex-some}
+use Rattle.findings.specs.Found.{firstNamed, firstMissing}
 use Rattle.questions.specs.Judge.{missingAs, lostTo}
 use Rattle.answers.specs.declared.answer.Collected.the-variants.{MissingNamedOnly}
 
@@ -30,18 +31,10 @@ lost-more count room (some k) e = absurd (false≢true e)
 
 -- ---- what is found is an index of the list
 
-firstIndex-within : (test : ℕ → Bool) (k n i : ℕ) → firstIndex test k n ≡ some i → (k ≤ i) × (i < k + n)
-firstIndex-within test k zero i e = let z : _≡_ {A = ℕ} 0 1 = cc in absurd (omega arith)
-firstIndex-within test k (suc n) i e = go (test k) e (firstIndex-within test (suc k) n i)
-  where
-    go : (b : Bool) → cond b (some k) (firstIndex test (suc k) n) ≡ some i → (firstIndex test (suc k) n ≡ some i → (suc k ≤ i) × (i < suc k + n)) → (k ≤ i) × (i < k + suc n)
-    go true f ih = let same : k ≡ i = cc in (omega arith, omega arith)
-    go false f ih = let r = ih f in (omega (arith, r .0), omega (arith, r .1))
-
 pub missing-within : (codes sources : List ℕ) (next len i : ℕ) → firstMissing codes sources next (len - next) ≡ some i → i < len
 unfolding firstMissing
-missing-within codes sources next len i e = let r = firstIndex-within (λ k. eqb (getD codes k 0) 1 && eqb (getD sources k 0) 0) next (len - next) i e in omega (arith, r .0, r .1)
+missing-within codes sources next len i e = let first = firstIndex-some (λ k. eqb (getD codes k 0) 1 && eqb (getD sources k 0) 0) next (len - next) i e in omega arith
 
 pub named-within : (sources : List ℕ) (next i : ℕ) → firstNamed sources 0 next ≡ some i → i < next
 unfolding firstNamed
-named-within sources next i e = let r = firstIndex-within (λ k. not (eqb (getD sources k 0) 0)) 0 next i e in omega (arith, r .1)
+named-within sources next i e = let first = firstIndex-some (λ k. not (eqb (getD sources k 0) 0)) 0 next i e in omega arith

@@ -1,6 +1,7 @@
 -- What is proved of the definitions: 01's examples, laws by subject in the order in which they lean on each other, and demand 3.
 pub mod Computed
 pub mod LawsListing
+pub mod LawsIndex
 pub mod LawsText
 pub mod LawsDigits
 pub mod LawsRecord

@@ -2,7 +2,7 @@
 use mathlib.Core.Bool.{Bool, true, false, cond, _&&_, _||_}
 use mathlib.Core.List.{List, [], _∷_}
 use mathlib.Core.Option.{Option, none, some}
-use Prim.Native.Nat.{ℕ, suc}
+use Prim.Native.Nat.{ℕ, zero, suc}
 
 abbrev pub all : {X : Type 0} → (X → Bool) → List X → Bool
 all test [] = true
@@ -26,6 +26,11 @@ keep test (x ∷ xs) = cond (test x) (x ∷ keep test xs) (keep test xs)
 abbrev pub firstFrom : {X : Type 0} → (X → Bool) → ℕ → List X → Option ℕ
 firstFrom test i [] = none
 firstFrom test i (x ∷ xs) = cond (test x) (some i) (firstFrom test (suc i) xs)
+
+-- the first of `count` indices from k on that passes a test
+abbrev pub firstIndex : (ℕ → Bool) → ℕ → ℕ → Option ℕ
+firstIndex test k zero = none
+firstIndex test k (suc count) = cond (test k) (some k) (firstIndex test (suc k) count)
 
 -- every element passes the test at its index, counted from `i`
 abbrev pub allFrom : {X : Type 0} → (ℕ → X → Bool) → ℕ → List X → Bool

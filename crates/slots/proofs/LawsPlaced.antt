@@ -10,12 +10,13 @@ use native.Mathlib.Omega.{arith}
 use borrow.Author.Tests.{ltb-true}
 use lib.Dec.{eqb, ltb, eqb·suc-zero}
 use lib.ListN.{length, drop, getD}
-use Rattle.rules.specs.Listing.{mapFrom}
+use Rattle.rules.specs.Listing.{firstIndex, mapFrom}
 use Rattle.rules.specs.Value.{Value, noValue, readValue}
 use Rattle.rules.specs.CallRecord.{Head, Named}
 use Rattle.rules.specs.Parameters.{Parameter, ParameterKind, required, optional, defaulted, args, kwargs, isRequired, positionalCount, actOf}
 use Rattle.rules.specs.Placement as rules
 use Rattle.rules.specs.Binding.{namedBy, askRepeats, askRequired}
+use Rattle.rules.proofs.LawsIndex.{firstIndex-below, firstIndex-from}
 use Rattle.rules.proofs.LawsPlacement.{isSome, partner-some}
 use Rattle.rules.proofs.LawsFound.{fromP-at}
 use Rattle.rules.proofs.LawsShort.{tally-most}
@@ -29,10 +30,9 @@ use Rattle.cells.proofs.LawsListed.{length-listed, listed-same, getD-listed}
 use Rattle.calls.specs.Places.{positionAt}
 use Rattle.findings.specs.Resolved.{sourceValue, Resolved}
 use Rattle.findings.specs.Resolve.{Prepared}
-use Rattle.findings.specs.Found.{firstIndex, firstNamed, firstMissing}
+use Rattle.findings.specs.Found.{firstNamed, firstMissing}
 use Rattle.slots.specs.Slots.{unfilledAs, slotAt, slotsOf}
 use Rattle.calls.specs.Values.{positionalAt}
-use Rattle.findings.proofs.LawsIndex.{firstIndex-below, firstIndex-from}
 use Rattle.findings.proofs.LawsAsked.{repeatedAt, missingAt, repeats-first, required-first}
 use Rattle.findings.proofs.LawsKinds.{required-code}
 use Rattle.findings.proofs.LawsNames.{anyParameter, length-list}

@@ -5,9 +5,9 @@ use borrow.Author.Tests.{eq-eqb, ne-eqb}
 use lib.Dec.{eqb}
 use lib.ListN.{getD}
 use Rattle.rules.proofs.LawsListing.{and-both, and-no-left, and-no-right}
+use Rattle.rules.proofs.LawsIndex.{firstIndex-hit, firstIndex-miss, firstIndex-none}
 use Prim.Native.Nat.{_-_}
 use Rattle.findings.specs.Found.{firstMissing}
-use Rattle.findings.proofs.LawsIndex.{firstIndex-hit, firstIndex-miss, firstIndex-none}
 use borrow.Author.Needs.{needs}
 use Rattle.findings.proofs.found.first_missing.Statement.{statement}
 use Rattle.findings.proofs.found.first_missing.Tie as tie

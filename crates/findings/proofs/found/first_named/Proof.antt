@@ -5,8 +5,8 @@ use native.Mathlib.Nat.{sub-zero}
 use lib.Dec.{eqb}
 use lib.ListN.{getD}
 use Prim.Native.Nat.{_-_, _≤_}
+use Rattle.rules.proofs.LawsIndex.{firstIndex-hit, firstIndex-miss, firstIndex-none}
 use Rattle.findings.specs.Found.{firstNamed}
-use Rattle.findings.proofs.LawsIndex.{firstIndex-hit, firstIndex-miss, firstIndex-none}
 use borrow.Author.Needs.{needs}
 use Rattle.findings.proofs.found.first_named.Statement.{statement}
 use Rattle.findings.proofs.found.first_named.Tie as tie

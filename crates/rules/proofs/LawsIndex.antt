@@ -1,4 +1,5 @@
--- Laws of a search over indices, as a loop asks for them: one more index looked at, and none left.
+-- Laws of a search over indices. In order: one more index looked at and none left, as a loop asks for them; what an answer says of the indices
+-- looked at; a search in two parts of the indices.
 -- Assumes nothing.
 use mathlib.Core.Path.{_≡_, refl, sym, ap, ap₂, _∙_}
 use mathlib.Core.Bool.{Bool, true, false, cond, not, _&&_}
@@ -8,7 +9,7 @@ use native.Mathlib.Numerals.{add-one}
 use native.Mathlib.Omega.{arith}
 use borrow.Author.Tests.{ltb-true, ltb-false, le-ltb}
 use lib.Dec.{ltb}
-use Rattle.findings.specs.Found.{firstIndex}
+use Rattle.rules.specs.Listing.{firstIndex}
 
 firstIndex-next : (test : ℕ → Bool) (k n : ℕ) → k < n → firstIndex test k (n - k) ≡ cond (test k) (some k) (firstIndex test (k + 1) (n - (k + 1)))
 firstIndex-next test k n h = ap (firstIndex test k) left ∙ rw (add-one k)
@@ -24,6 +25,48 @@ firstIndex-miss test k n h e = firstIndex-next test k n h ∙ ap (λ b. cond b (
 
 pub firstIndex-none : (test : ℕ → Bool) (k n : ℕ) → n ≤ k → firstIndex test k (n - k) ≡ none
 firstIndex-none test k n h = let z : n - k ≡ 0 = omega arith in ap (firstIndex test k) z
+
+-- ---- what an answer says
+
+-- index i is the first that passes of n indices from k on
+pub record FirstOf (test : ℕ → Bool) (k n i : ℕ) : Type 0 where
+  pub from : k ≤ i
+  pub within : i < k + n
+  pub passes : test i ≡ true
+  pub none-before : (j : ℕ) → k ≤ j → j < i → test j ≡ false
+
+-- what holds of k and of all indices behind it up to i holds from k on
+from-next : (test : ℕ → Bool) (k i : ℕ) → test k ≡ false → ((j : ℕ) → suc k ≤ j → j < i → test j ≡ false) → (j : ℕ) → k ≤ j → j < i → test j ≡ false
+from-next test k i e later j h l = go (ltb k j) refl
+  where
+    go : (b : Bool) → ltb k j ≡ b → test j ≡ false
+    go true p = later j (ltb-true k j p) l
+    go false p = let here : j ≡ k = omega (arith, ltb-false k j p) in ap test here ∙ e
+
+pub firstIndex-some : (test : ℕ → Bool) (k n i : ℕ) → firstIndex test k n ≡ some i → FirstOf test k n i
+firstIndex-some test k zero i e = let z : _≡_ {A = ℕ} 0 1 = cc in absurd (omega arith)
+firstIndex-some test k (suc n) i e = go (test k) refl e (firstIndex-some test (suc k) n i)
+  where
+    go : (b : Bool) → test k ≡ b → cond b (some k) (firstIndex test (suc k) n) ≡ some i → (firstIndex test (suc k) n ≡ some i → FirstOf test (suc k) n i)
+        → FirstOf test k (suc n) i
+    go true p f later =
+        let here : k ≡ i = cc in
+        record { from = omega arith; within = omega arith; passes = sym (ap test here) ∙ p; none-before = λ j h l. absurd (omega arith) }
+    go false p f later =
+        let r = later f in
+        record { from = omega arith; within = omega arith; passes = r .passes; none-before = from-next test k i p (r .none-before) }
+
+pub firstIndex-nowhere : (test : ℕ → Bool) (k n : ℕ) → firstIndex test k n ≡ none → (j : ℕ) → k ≤ j → j < k + n → test j ≡ false
+firstIndex-nowhere test k zero e j h l = absurd (omega arith)
+firstIndex-nowhere test k (suc n) e j h l = go (test k) refl e (firstIndex-nowhere test (suc k) n)
+  where
+    go : (b : Bool) → test k ≡ b → cond b (some k) (firstIndex test (suc k) n) ≡ none
+        → (firstIndex test (suc k) n ≡ none → (m : ℕ) → suc k ≤ m → m < suc k + n → test m ≡ false)
+        → test j ≡ false
+    go true p f later = let z : _≡_ {A = ℕ} 0 1 = cc in absurd (omega arith)
+    go false p f later =
+        let end : suc k + n ≡ k + suc n = omega arith in
+        from-next test k (k + suc n) p (rw end at (later f)) j h l
 
 -- ---- a search in two parts of the indices
 
