@@ -1,5 +1,5 @@
--- 01's twelve examples, its example of `bind`, the limits of a sheet, and cuts, printed lists, counts of step lists and accessors at work, by computation: every
--- definition that they cite is unfolded and each side computed.
+-- 01's twelve examples, its example of `bind`, the limits of a sheet, and cuts, printed lists, counts of step lists, accessors and water in the
+-- last runs at work, by computation: every definition that they cite is unfolded and each side computed.
 -- Assumes nothing.
 use mathlib.Core.Path.{refl}
 use lib.Dec.{lit≤}
@@ -10,6 +10,7 @@ use Rattle.rules.specs.CountExamples.{CountExamples, bothCounts, stepsAs
 use Rattle.rules.specs.SheetExamples.{SheetExamples, exampleInput, exampleOutput, bindsTo, SheetLimits, judged, listBegun, callBegun, times, withSteps, withRows, listRow, dictRow, valueRows, namedRows, itemRows, entryRows, textRow}
 use Rattle.rules.specs.PrintedExamples.{PrintedExamples, asked, shown, starBytes, steps, allSteps}
 use Rattle.rules.specs.CutExamples.{CutExamples, ends, fills, listM, callBytes as cutBytes}
+use Rattle.rules.specs.WindowExamples.{WindowExamples, exceeding}
 use Rattle.rules.specs.AccessExamples.{AccessExamples, mapped, mappedCells, placed, placedCells, counted, unnamed, chosen, chosenCells}
 
 pub twelve : Twelve
@@ -122,4 +123,24 @@ access-examples =
       one-missing = refl;
       missing-written = refl;
       numbers-first = refl;
+    }
+
+pub window-examples : WindowExamples
+unfolding exceeding
+window-examples =
+    record {
+      three-runs = refl;
+      at-the-limit = refl;
+      above-it = refl;
+      at-the-start = refl;
+      first-run = refl;
+      single = refl;
+      longer = refl;
+      longer-within = refl;
+      no-runs = refl;
+      no-window = refl;
+      longest = refl;
+      too-long = refl;
+      most-runs = refl;
+      too-many-runs = refl;
     }

@@ -22,4 +22,5 @@ pub mod LawsSheetRows
 pub mod LawsSheetForm
 pub mod LawsRetired
 pub mod LawsSheetOutput
+pub mod LawsWindow
 pub mod Demand3

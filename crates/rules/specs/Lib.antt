@@ -36,3 +36,5 @@ pub mod SheetOutput
 pub mod SheetForm
 pub mod Retired
 pub mod SheetExamples
+pub mod Window
+pub mod WindowExamples
