@@ -1,0 +1,2 @@
+-- Laws of what the loop keeps.
+pub mod LawsKept
