@@ -1,6 +1,6 @@
 -- The answer of each exported function as eight cells: the number of the refusal, 0 where there is none; where the name in its detail stands
 -- (area, start, length); and four values, which are counts or what the function is asked for. The layout and the numbers 100 and 101 are the
--- library's own; the numbers below them are 01's.
+-- library's own; the numbers below them are 01's and 02's.
 use mathlib.Core.Path.{_≡_}
 use mathlib.Core.Bool.{cond}
 use mathlib.Core.List.{List, [], _∷_}
@@ -15,6 +15,7 @@ use Rattle.rules.specs.Accessors.{Access, denied, gives}
 use Rattle.rules.specs.ParameterQuestions.{askParameters, listOf}
 use Rattle.rules.specs.Reader.{Read, unread, holds, vacant}
 use Rattle.rules.specs.SheetOutput.{Bound, noRoom, wrote}
+use Rattle.rules.specs.Window.{Window, refusedWindow, exceededAt, neverExceeded}
 use Rattle.sheets.specs.Read.{Reading, noRoom as noSpace, badLine, held}
 use Rattle.prepared.specs.Prepared.{preparedLength, preparedFrom}
 use Rattle.prepared.specs.Bind.{preparationOf, cellsAfter}
@@ -96,6 +97,12 @@ abbrev pub readingAnswer : Reading → List ℕ
 readingAnswer noSpace = refusalAnswer 101 none
 readingAnswer (badLine n k) = refusalAnswer n (count k)
 readingAnswer (held a b c d) = valueAnswer a b c d
+
+-- water in the last runs: 1 and the position where the limit is exceeded, or 0
+abbrev pub windowAnswer : Window → List ℕ
+windowAnswer (refusedWindow n d) = refusalAnswer n d
+windowAnswer (exceededAt i) = valueAnswer 1 i 0 0
+windowAnswer neverExceeded = valueAnswer 0 0 0 0
 
 -- an exported function answers these cells, and their first as its result
 pub record Says (cells after : List ℕ) (r : ℕ) : Type 0 where

@@ -9,6 +9,7 @@ use printer::Printed;
 use reader::Next;
 use sheets::Bound;
 use sheets::SheetsRead;
+use window::Exceeded;
 ghost use mathlib.Core.Path.{_≡_};
 ghost use mathlib.Core.List.{List, [], _∷_};
 ghost use Prim.Native.Nat.{ℕ};
@@ -22,7 +23,8 @@ ghost use Rattle.prepared.specs.Bind.{toldBy};
 ghost use Rattle.reader.specs.Parser.{readOf};
 ghost use Rattle.sheets.specs.Bind.{boundOf};
 ghost use Rattle.sheets.specs.Read.{readingOf};
-ghost use Rattle.liuwdom.specs.Answer.{Says, outcomeAnswer, preparationAnswer, fillingAnswer, accessAnswer, findingAnswer, readAnswer, boundAnswer, readingAnswer};
+ghost use Rattle.window.specs.Exceeded.{windowIn};
+ghost use Rattle.liuwdom.specs.Answer.{Says, outcomeAnswer, preparationAnswer, fillingAnswer, accessAnswer, findingAnswer, readAnswer, boundAnswer, readingAnswer, windowAnswer};
 ghost use Rattle.liuwdom.specs.Told.{toldCells};
 
 // A name in a detail stands in no area, in the spec area or in the call area.
@@ -37,8 +39,10 @@ const NOT_PREPARED: u64 = 100;
 
 const NO_ROOM: u64 = 101;
 
-// The number of a sheet that breaks a rule.
+// The number of a sheet that breaks a rule, and of a window or a list of runs that is too long.
 const BAD_SHEET: u64 = 30;
+
+const BAD_WINDOW: u64 = 39;
 
 // An answer before it is written: the number, the name's area and payload, and four values.
 pub struct Told {
@@ -234,5 +238,15 @@ pub fn sheets_read(r: SheetsRead) -> Told
         }
         SheetsRead::Bad(line) => plain(BAD_SHEET, line as u64, 0, 0, 0),
         SheetsRead::NoRoom => plain(NO_ROOM, 0, 0, 0, 0),
+    }
+}
+
+pub fn exceeded(r: Exceeded) -> Told
+    ensures { λ t. ⌜ toldCells t ≡ windowAnswer (windowIn r) ⌝ }
+{
+    match r {
+        Exceeded::At(position) => plain(0, 1, position as u64, 0, 0),
+        Exceeded::Never => plain(0, 0, 0, 0, 0),
+        Exceeded::OutOfRange => plain(BAD_WINDOW, 0, 0, 0, 0),
     }
 }

@@ -9,6 +9,7 @@ use accessors::positions::positions;
 use answer::accessed;
 use answer::bound;
 use answer::collected;
+use answer::exceeded;
 use answer::filled;
 use answer::found;
 use answer::prepared;
@@ -30,6 +31,7 @@ use reader::read_next;
 use reader::read_next_opt;
 use sheets::bind;
 use sheets::read_sheets;
+use window::window;
 ghost use mathlib.Core.Path.{_≡_};
 ghost use Rattle.rules.specs.Collection.{collection, boardLeft};
 ghost use Rattle.rules.specs.CanFill.{fillable};
@@ -41,9 +43,10 @@ ghost use Rattle.rules.specs.SheetOutput as sheet;
 ghost use Rattle.rules.specs.ParameterRecord.{encodeParameters};
 ghost use Rattle.rules.specs.CallRecord.{encodeCall};
 ghost use Rattle.rules.specs.SheetRecords.{sheetsIn};
+ghost use Rattle.rules.specs.Window as runs;
 ghost use Rattle.sheets.specs.Read.{reading, leftBy};
 ghost use Rattle.prepared.specs.Prepared.{boundPrepared};
-ghost use Rattle.liuwdom.specs.Answer.{Says, outcomeAnswer, preparingAnswer, preparingLeft, fillingAnswer, accessAnswer, lookupAnswer, readAnswer, boundAnswer, readingAnswer};
+ghost use Rattle.liuwdom.specs.Answer.{Says, outcomeAnswer, preparingAnswer, preparingLeft, fillingAnswer, accessAnswer, lookupAnswer, readAnswer, boundAnswer, readingAnswer, windowAnswer};
 
 pub mod answer;
 
@@ -268,4 +271,12 @@ pub extern "C" fn liuwdom_read_is_eof(slots: &[u64], at: usize) -> bool
     ensures { λ r. ⌜ r ≡ atEnd (leftAt (now (slots .entry)) at) ⌝ }
 {
     read_is_eof(slots, at)
+}
+
+// The first position at which the minutes of the last `w` runs exceed a limit.
+#[no_mangle]
+pub extern "C" fn liuwdom_window(minutes: &[u32], w: u64, limit: u64, answer: &mut [u64; 8]) -> u64
+    ensures { λ r. ⌜ Says (windowAnswer (runs.window w limit (now (minutes .entry)))) (now (answer .exit)) r ⌝ }
+{
+    exceeded(window(minutes, w, limit)).write(answer)
 }
