@@ -27,8 +27,8 @@
  *
  * The answer. Each function but liuwdom_read_is_eof writes all eight cells of `answer`, whatever happens, and returns the first:
  *
- *   0      the number: 0 answered, 1 to 30 refused by that question of 01, LIUWDOM_NOT_PREPARED, LIUWDOM_NO_ROOM. 8 is retired: nothing is
- *          refused by it, and no later question takes it
+ *   0      the number: 0 answered, 1 to 30 refused by that question of 01, 39 by that of a request to it, LIUWDOM_NOT_PREPARED,
+ *          LIUWDOM_NO_ROOM. 8 is retired: nothing is refused by it, and no later question takes it
  *   1      the area of the name in a refusal's detail: LIUWDOM_NO_AREA, LIUWDOM_SPEC_AREA (16, 20 to 22) or LIUWDOM_CALL_AREA (19, 24)
  *   2, 3   where that name starts in its area, and its length
  *   4 to 7 what is answered, as each function says; refused by 23 and 24: how many are left over (4); by 26: least, most and got (4, 5, 6);
@@ -53,6 +53,10 @@
 #define LIUWDOM_CALL_CELLS 774 /* cells of its call record */
 #define LIUWDOM_TEXTS 16384    /* bytes of each of its areas */
 
+/* What liuwdom_window takes at the most: runs of a list, and runs of a window. */
+#define LIUWDOM_RUNS 4096
+#define LIUWDOM_WINDOW 1440
+
 /* Cells of an answer. */
 #define LIUWDOM_AT_NUMBER 0
 #define LIUWDOM_AT_AREA 1
@@ -65,7 +69,7 @@
 #define LIUWDOM_SPEC_AREA 1
 #define LIUWDOM_CALL_AREA 2
 
-/* Numbers that are the library's own, beside 01's 1 to 30 (8 is retired). */
+/* Numbers that are the library's own, beside 01's 1 to 30 (8 is retired) and 39 of a request to it. */
 #define LIUWDOM_NOT_PREPARED 100
 #define LIUWDOM_NO_ROOM 101
 
@@ -203,6 +207,14 @@ uint64_t liuwdom_read_next_opt(const uint64_t *slots, size_t slots_len, size_t a
 
 /* Whether no slot is left. */
 bool liuwdom_read_is_eof(const uint64_t *slots, size_t slots_len, size_t at);
+
+/*
+ * Water in the last runs, against a pump permit that limits the minutes over any `w` runs in a row: the first position, from 0, at which the
+ * sum of the last `w` runs exceeds `limit`. The position is that of the last of these runs; at the start, where there are fewer than `w`, those
+ * that there are count; a sum that is the limit does not exceed it. 39 where w is 0 or above LIUWDOM_WINDOW, or the list is over LIUWDOM_RUNS.
+ * answer[4]: 1 if there is such a position, else 0; answer[5]: that position, else 0.
+ */
+uint64_t liuwdom_window(const uint32_t *minutes, size_t minutes_len, uint64_t w, uint64_t limit, uint64_t *answer);
 
 #ifdef __cplusplus
 }

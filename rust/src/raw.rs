@@ -171,4 +171,12 @@ unsafe extern "C" {
     ) -> u64;
 
     pub fn liuwdom_read_is_eof(slots: *const u64, slots_len: usize, at: usize) -> bool;
+
+    pub fn liuwdom_window(
+        minutes: *const u32,
+        minutes_len: usize,
+        w: u64,
+        limit: u64,
+        answer: *mut u64,
+    ) -> u64;
 }

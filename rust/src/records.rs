@@ -39,6 +39,11 @@ pub const CALL_CELLS: usize = 774;
 /// Bytes that the output for the texts of a sheet needs at least.
 pub const TEXTS: usize = 16_384;
 
+/// Runs that a list of minutes may have.
+pub const RUNS: usize = 4_096;
+/// Runs that a window over them may have.
+pub const WINDOW: u64 = 1_440;
+
 /// Cells before the arguments of a call record.
 pub const HEAD: usize = 6;
 /// Cells of a value, of a slot.
@@ -116,7 +121,7 @@ impl Place {
 /// A refusal as the answer's cells tell it.
 #[derive(Clone, Copy, Debug, PartialEq, Eq)]
 pub struct RawRefusal {
-    /// 1 to 30 as in document 01 (8 is retired), [`NOT_PREPARED`] or [`NO_ROOM`].
+    /// 1 to 30 as in document 01 (8 is retired), 39 as in document 02, [`NOT_PREPARED`] or [`NO_ROOM`].
     pub number: u64,
     pub name: Option<Place>,
     /// The detail's numbers: the count of 23 and 24; least, most and got of 26; for 27 and 28 the third is where the reader stands; the line of
@@ -176,6 +181,11 @@ fn number(values: [u64; 4]) -> usize {
     values[0] as usize
 }
 
+// An index or a position, where there is one.
+fn found(values: [u64; 4]) -> Option<usize> {
+    (values[0] != 0).then_some(values[1] as usize)
+}
+
 /// Collects a call into a board.
 pub fn collect_cells(
     spec_cells: &[u64],
@@ -223,8 +233,7 @@ pub fn lookup_cells(
     spec: &[u8],
     name: &[u8],
 ) -> Result<Option<usize>, RawRefusal> {
-    let values = ask!(liuwdom_lookup(spec_cells, spec, name; ;))?;
-    Ok((values[0] != 0).then_some(values[1] as usize))
+    ask!(liuwdom_lookup(spec_cells, spec, name; ;)).map(found)
 }
 
 /// Writes the written names and then the entries, and says how many.
@@ -357,4 +366,9 @@ pub fn read_next_opt_cells(slots: &[u64], at: usize) -> Read {
 pub fn read_is_eof_cells(slots: &[u64], at: usize) -> bool {
     // SAFETY: a slice is good for its length.
     unsafe { raw::liuwdom_read_is_eof(slots.as_ptr(), slots.len(), at) }
+}
+
+/// The first position at which the minutes of the last `w` runs exceed a limit (39).
+pub fn window_minutes(minutes: &[u32], w: u64, limit: u64) -> Result<Option<usize>, RawRefusal> {
+    ask!(liuwdom_window(minutes; w, limit;)).map(found)
 }

@@ -5,7 +5,7 @@ use std::fmt::{self, Display, Formatter};
 
 use crate::records::{RawRefusal, NOT_PREPARED, NO_ROOM};
 
-/// Why a record, a call or a sheet is refused. Those of binding have the names of the Rust's `FunctionError` where it has one.
+/// Why a record, a call, a sheet or a list of runs is refused. Those of binding have the names of the Rust's `FunctionError` where it has one.
 #[derive(Clone, Debug, PartialEq, Eq)]
 pub enum Refusal {
     /// 1: more than 66 steps, or cells that are no whole steps.
@@ -66,6 +66,8 @@ pub enum Refusal {
     ShortOutput,
     /// 30: the sheet breaks a rule at this line, counted from 1; 0 where the whole input is too long.
     BadSheet { line: usize },
+    /// 39: a window of no run or of more than 1,440, or a list of more than 4,096 runs.
+    WindowOutOfRange,
     /// 100: the cells are no prepared list.
     NotPrepared,
     /// 101: the output is too short for any answer.
@@ -128,13 +130,14 @@ impl Refusal {
             27 => Refusal::NoSlotLeft,
             28 => Refusal::EmptySlot,
             29 => Refusal::ShortOutput,
+            39 => Refusal::WindowOutOfRange,
             NOT_PREPARED => Refusal::NotPrepared,
             NO_ROOM => Refusal::NoRoom,
             other => unreachable!("the library has no refusal {other}"),
         }
     }
 
-    /// The number of document 01.
+    /// The number of document 01, or of the request of document 02 that has it.
     pub fn number(&self) -> u64 {
         match self {
             Refusal::TooManySteps => 1,
@@ -166,6 +169,7 @@ impl Refusal {
             Refusal::EmptySlot => 28,
             Refusal::ShortOutput => 29,
             Refusal::BadSheet { .. } => 30,
+            Refusal::WindowOutOfRange => 39,
             Refusal::NotPrepared => NOT_PREPARED,
             Refusal::NoRoom => NO_ROOM,
         }
@@ -216,6 +220,9 @@ impl Refusal {
             Refusal::EmptySlot => "a slot that must be filled is empty",
             Refusal::ShortOutput => "there is too little room for the printed list",
             Refusal::BadSheet { .. } => "the sheet breaks a rule",
+            Refusal::WindowOutOfRange => {
+                "a window has 1 to 1,440 runs, and a list at most 4,096 of them"
+            }
             Refusal::NotPrepared => "the cells are no prepared list",
             Refusal::NoRoom => "the output is too short",
         }
@@ -266,7 +273,7 @@ mod tests {
     #[test]
     fn each_number_has_its_refusal() {
         let mut told = HashSet::new();
-        for number in (1..=7).chain(9..=30).chain([NOT_PREPARED, NO_ROOM]) {
+        for number in (1..=7).chain(9..=30).chain([39, NOT_PREPARED, NO_ROOM]) {
             assert_eq!(of(number).number(), number);
             assert!(told.insert(of(number).to_string()));
         }
