@@ -1,15 +1,16 @@
-// Ours against the Rust, in one process, on the same inputs: `bench` prints the table, `bench growth` sizes 1 to 64 as rows, `bench plot` draws
-// such rows. The baseline is the published bodies over stand-ins (oracle/), which keep the original's precomputed hashes and allocate no
+// Ours against the Rust, in one process, on the same inputs: `bench` prints the tables, `bench growth` sizes 1 to 64 as rows, `bench plot` draws
+// such rows. The baseline of binding is the published bodies over stand-ins (oracle/), which keep the original's precomputed hashes and allocate no
 // more than it does; it is not the unmodified crate. These are measurements and no tests.
 mod input;
 mod plot;
 mod sides;
 mod time;
+mod window;
 
 use input::{input, Shape, SHAPES};
 use sides::{with_ours, with_rust, List};
 use std::io::Read;
-use time::{instructions, times};
+use time::{by_count, instructions, times, Times};
 
 const SIZES: [usize; 3] = [4, 16, 64];
 const LISTS: [List; 2] = [List::Cold, List::Prepared];
@@ -49,18 +50,24 @@ fn table() {
     }
 }
 
+fn timed(size: usize, shape: Shape, list: List) -> Times {
+    let input = input(size, shape);
+    with_ours(&input, shape, list, |ours| {
+        with_rust(&input, shape, list, |rust| times(ours, rust))
+    })
+}
+
 fn row(size: usize, shape: Shape, list: List) {
-    let t = times(size, shape, list);
+    let t = timed(size, shape, list);
     let ratio = t.ours / t.rust;
-    let counted =
-        instructions("ours", size, shape, list).zip(instructions("rust", size, shape, list));
-    let by_count = match counted {
-        Some((a, b)) => format!("{a:.0} / {b:.0} = {:.2}", a / b),
-        None => "no valgrind".to_owned(),
+    let count = |side| {
+        let (size, shape) = (size.to_string(), format!("{shape:?}"));
+        instructions(&["one", side, &size, &shape, &format!("{list:?}")])
     };
+    let counted = by_count(count("ours"), count("rust"));
     let why = if ratio > 1.0 { reason(shape, list) } else { "" };
     println!(
-        "| {size} | {shape} | {} | {:.0} | {:.0} | {ratio:.2} | {by_count} | {why} |",
+        "| {size} | {shape} | {} | {:.0} | {:.0} | {ratio:.2} | {counted} | {why} |",
         list_name(list),
         t.ours,
         t.rust
@@ -72,7 +79,7 @@ fn growth() {
     for shape in SHAPES {
         for list in LISTS {
             for size in 1..=64 {
-                let t = times(size, shape, list);
+                let t = timed(size, shape, list);
                 println!(
                     "{shape},{},{size},{:.1},{:.1}",
                     list_name(list),
@@ -118,12 +125,18 @@ fn one(words: &[String]) -> Option<()> {
 fn main() {
     let words: Vec<String> = std::env::args().skip(1).collect();
     match words.first().map(String::as_str) {
-        None => table(),
+        None => {
+            table();
+            println!();
+            window::table();
+        }
+        Some("windows") => window::table(),
         Some("growth") => growth(),
         Some("plot") => plot_rows(),
         Some("one") if one(&words[1..]).is_some() => {}
+        Some("window") if window::one(&words[1..]).is_some() => {}
         _ => {
-            eprintln!("usage: bench | bench growth | bench plot <ROWS | bench one SIDE SIZE SHAPE LIST TIMES");
+            eprintln!("usage: bench | bench windows | bench growth | bench plot <ROWS | bench one SIDE SIZE SHAPE LIST TIMES | bench window SIDE RUNS W TIMES");
             std::process::exit(2);
         }
     }

@@ -1,6 +1,5 @@
 // How long a side takes: the median over many batches, ours and the Rust's by turns; and how many instructions, by callgrind.
-use crate::input::{input, Shape};
-use crate::sides::{with_ours, with_rust, List, Run};
+use crate::sides::Run;
 use std::process::Command;
 use std::time::Instant;
 
@@ -33,39 +32,37 @@ fn median(mut all: Vec<f64>) -> f64 {
 }
 
 // Both sides stand ready before the first batch, so nothing but the calls is timed.
-pub fn times(size: usize, shape: Shape, list: List) -> Times {
-    let input = input(size, shape);
-    with_ours(&input, shape, list, |a| {
-        with_rust(&input, shape, list, |b| {
-            let (na, nb) = (calibrate(a), calibrate(b));
-            let mut all = (Vec::new(), Vec::new());
-            for _ in 0..BATCHES {
-                all.0.push(nanos(a, na) as f64 / na as f64);
-                all.1.push(nanos(b, nb) as f64 / nb as f64);
-            }
-            Times {
-                ours: median(all.0),
-                rust: median(all.1),
-            }
-        })
-    })
+pub fn times(ours: Run, rust: Run) -> Times {
+    let (na, nb) = (calibrate(ours), calibrate(rust));
+    let mut all = (Vec::new(), Vec::new());
+    for _ in 0..BATCHES {
+        all.0.push(nanos(ours, na) as f64 / na as f64);
+        all.1.push(nanos(rust, nb) as f64 / nb as f64);
+    }
+    Times {
+        ours: median(all.0),
+        rust: median(all.1),
+    }
 }
 
-// Instructions of one run: two runs of this program under callgrind, one with 1,000 rounds more than the other. None without valgrind.
-pub fn instructions(side: &str, size: usize, shape: Shape, list: List) -> Option<f64> {
+// What a row says of instructions, from how many each side takes.
+pub fn by_count(ours: Option<f64>, rust: Option<f64>) -> String {
+    match ours.zip(rust) {
+        Some((a, b)) => format!("{a:.0} / {b:.0} = {:.2}", a / b),
+        None => "no valgrind".to_owned(),
+    }
+}
+
+// Instructions of one run of the side that these words name: two runs of this program under callgrind, one with 1,000 rounds more than the
+// other. None without valgrind.
+pub fn instructions(words: &[&str]) -> Option<f64> {
     const ROUNDS: usize = 1000;
     let counted = |rounds: usize| {
         let own = std::env::current_exe().ok()?;
         let out = Command::new("valgrind")
             .args(["--tool=callgrind", "--callgrind-out-file=/dev/null"])
             .arg(own)
-            .args([
-                "one",
-                side,
-                &size.to_string(),
-                &format!("{shape:?}"),
-                &format!("{list:?}"),
-            ])
+            .args(words)
             .arg(rounds.to_string())
             .output()
             .ok()?;
