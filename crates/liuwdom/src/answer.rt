@@ -39,7 +39,7 @@ const NOT_PREPARED: u64 = 100;
 
 const NO_ROOM: u64 = 101;
 
-// The number of a sheet that breaks a rule, and of a window or a list of runs that is too long.
+// The number of a sheet that breaks a rule, and of a window or a list of runs that is out of its range.
 const BAD_SHEET: u64 = 30;
 
 const BAD_WINDOW: u64 = 39;
