@@ -12,14 +12,15 @@ use lib.ListN.{length, drop, getD}
 use Rattle.rules.specs.Listing.{all, tally, mapFrom}
 use Rattle.rules.specs.Cells.{writeEach, over}
 use Rattle.rules.specs.Value.{Value, valueCells, noValue, callText}
-use Rattle.rules.specs.Answer.{fine, _then_, ask, Part}
-use Rattle.rules.specs.CallRecord.{Call, Named, pairCells, entriesOf, positionalsOf, namedOf}
+use Rattle.rules.specs.Answer.{Answer, fine, _then_, Part}
+use Rattle.rules.specs.CallRecord.{Call, Named, pairCells, positionalsOf, namedOf}
 use Rattle.rules.specs.Parameters.{Parameter, ParameterKind, required, optional, defaulted, args, kwargs, plain, isArgs, isKwargs, hasArgs, hasKwargs}
 use Rattle.rules.specs.Lookup.{known}
 use Rattle.rules.specs.Placement.{Slot, empty, taken, fromDefault, starCount, namedCount, isTaken, isDefaulted, fromP, partner, otherwise, takenOr, slotOf, place, starRemainder, namedRemainder, countsOf}
 use Rattle.rules.specs.Board.{slotCells, namedCells, written, boardAfter}
-use Rattle.rules.specs.Binding.{starPasses, doublePasses, askRepeats, askEntries, askRequired, askStarRemainder, askNamedRemainder, askPlaced, askBinding}
-use Rattle.rules.proofs.LawsAnswer.{then-left, then-right, fine-refuse}
+use Rattle.rules.specs.Binding.{askGiven, askRequired, askStarRemainder, askNamedRemainder}
+use Rattle.rules.specs.UnknownFirst.{placedMissingFirst, bindingMissingFirst}
+use Rattle.rules.proofs.LawsAnswer.{then-left, then-right, fine-refuse, given-then}
 use Rattle.original.specs.Locals.{Held}
 use Rattle.original.specs.Ending.{heldIn}
 use Rattle.original.specs.Whole.{rustSlot, tupleIn, dictIn, holdsValue, rustCells, rustBoard, SameSlots}
@@ -106,16 +107,11 @@ named-fine true vs e = refl
 named-fine false [] e = refl
 named-fine false (v ∷ vs) e = fine-refuse (sym e)
 
-pub placed-fine : (qs : List Parameter) (c : Call) → askBinding qs c ≡ fine → askPlaced qs (positionalsOf c) (namedOf c) ≡ fine
-unfolding askBinding
+pub placed-fine : (qs : List Parameter) (c : Call) → bindingMissingFirst qs c ≡ fine → placedMissingFirst qs (positionalsOf c) (namedOf c) ≡ fine
+unfolding bindingMissingFirst
 placed-fine qs c e =
-    then-right (askEntries qs P (c .named) (entriesOf (c .double))) (askPlaced qs P (namedOf c))
-    (then-right (ask 17 (doublePasses (c .double))) (askEntries qs P (c .named) (entriesOf (c .double)) then askPlaced qs P (namedOf c))
-    (then-right (askRepeats P (c .named) 0 qs) (ask 17 (doublePasses (c .double)) then askEntries qs P (c .named) (entriesOf (c .double)) then askPlaced qs P (namedOf c))
-    (then-right (ask 15 (starPasses (c .star))) (askRepeats P (c .named) 0 qs then ask 17 (doublePasses (c .double)) then askEntries qs P (c .named) (entriesOf (c .double)) then askPlaced qs P (namedOf c)) e)))
-  where
-    P : List Value
-    P = positionalsOf c
+    let placed : Answer = placedMissingFirst qs (positionalsOf c) (namedOf c) in
+    then-right (askGiven qs c fine) placed (sym (given-then qs c placed) ∙ e)
 
 -- ---- the board
 
@@ -133,9 +129,9 @@ module _ (qs : List Parameter) (P : List Value) (N : List Named) (board : List �
   unfolding place
   slots-from = map-mapFrom (heldIn stars named) (slotAt P N stars named) 0 qs
 
-  module _ (one-args : once (λ q. isArgs (q .kind)) qs ≡ true) (one-kwargs : once (λ q. isKwargs (q .kind)) qs ≡ true) (placed : askPlaced qs P N ≡ fine) where
+  module _ (one-args : once (λ q. isArgs (q .kind)) qs ≡ true) (one-kwargs : once (λ q. isKwargs (q .kind)) qs ≡ true) (placed : placedMissingFirst qs P N ≡ fine) where
     remainders-fine : (askStarRemainder (hasArgs qs) stars then askNamedRemainder (hasKwargs qs) named) ≡ fine
-    unfolding askPlaced
+    unfolding placedMissingFirst
     remainders-fine = then-right (askRequired qs (place qs P N)) (askStarRemainder (hasArgs qs) stars then askNamedRemainder (hasKwargs qs) named) placed
 
     tuple-held : flatMap tupleIn slots ≡ stars

@@ -1,5 +1,6 @@
 -- The collector whole: for a list whose positional and positional-only parameters come first, whose nameable names differ and which has *args
--- and **kwargs at most once, and for a call whose written names differ, `collect_inline_impl`, as TotalCollect has it, ends as 15 to 24 answer.
+-- and **kwargs at most once, and for a call whose written names differ, `collect_inline_impl`, as TotalCollect has it, ends as 15 to 24 answer in
+-- 01's own order.
 -- Assumes nothing.
 use mathlib.Core.Path.{_≡_, refl, sym, ap, ap₂, subst, _∙_}
 use mathlib.Core.Bool.{Bool, true, false, cond, not, _&&_, false≢true, true≢false}
@@ -19,9 +20,11 @@ use Rattle.rules.specs.CallRecord.{Call, Named, Star, noStar, iterable, notIter
 use Rattle.rules.specs.Parameters.{Parameter, isArgs, isKwargs, positionalOnly, positionalCount, hasArgs, hasKwargs}
 use Rattle.rules.specs.Lookup.{known}
 use Rattle.rules.specs.Placement.{taken, fromP, partner, place, starRemainder, namedRemainder}
-use Rattle.rules.specs.Binding.{textsOf, namedBy, starPasses, doublePasses, askRepeats, askEntries, askRequired, askStarRemainder, askNamedRemainder, askPlaced, askBinding}
+use Rattle.rules.specs.Binding.{textsOf, namedBy, starPasses, doublePasses, askRepeats, askEntries, askRequired, askStarRemainder, askNamedRemainder}
+use Rattle.rules.specs.UnknownFirst.{placedMissingFirst, bindingMissingFirst}
 use Rattle.rules.specs.Passed.{positionalFirst, namesApart}
 use Rattle.rules.proofs.LawsAnswer.{fine-refuse, then-right}
+use Rattle.rules.proofs.LawsUnknownFirst.{missing-first-fine}
 use Rattle.rules.proofs.LawsPlacement.{isSome as isGiven, partner-some}
 use Rattle.rules.proofs.LawsFound.{fromP-at}
 use Rattle.rules.proofs.LawsShort.{place-short, binding-short}
@@ -228,8 +231,8 @@ module _ (read : Part → List ℕ) (qs : List Parameter) (d : Parameter) (c : C
       ∙ ap (λ (m : List (Option Held)). ends read named (askNamedRemainder (hasKwargs qs) named) (ok m)) (slots-placed qs d P N first)
 
   -- the statements in their order, each with the question that it ends by
-  pub slow : some (collectSlow (specOf qs) c (replicate (length qs) none)) ≡ ends read named (askBinding qs c) result
-  unfolding collectSlow askBinding askPlaced positionalsOf namedOf
+  pub slow : some (collectSlow (specOf qs) c (replicate (length qs) none)) ≡ ends read named (bindingMissingFirst qs c) result
+  unfolding collectSlow bindingMissingFirst placedMissingFirst positionalsOf namedOf
   slow =
       rw (written)
       (ends-then read named x₄ (setKwargs (specOf qs .kwargs)) a₄ (askNamedRemainder (hasKwargs qs) named) (withSlots argsSlot) result
@@ -270,10 +273,10 @@ module _ (read : Part → List ℕ) (qs : List Parameter) (d : Parameter) (c : C
 
   -- ---- the short path
 
-  short : isShort (specOf qs) c ≡ true → some (ok (zipSlots (c .positionals) (replicate (length qs) none))) ≡ ends read named (askBinding qs c) result
+  short : isShort (specOf qs) c ≡ true → some (ok (zipSlots (c .positionals) (replicate (length qs) none))) ≡ ends read named (bindingMissingFirst qs c) result
   unfolding isShort specOf
   short e =
-      rw (binding-short qs (c .positionals) (sym count ∙ just) just c refl unnamed starless doubleless)
+      rw (missing-first-fine qs c (binding-short qs (c .positionals) (sym count ∙ just) just c refl unnamed starless doubleless))
       (ap (λ (m : List (Option Held)). some (ok m))
       (ap (λ (n : ℕ). zipSlots (c .positionals) (replicate n none)) (sym just)
       ∙ zip-all (c .positionals)
@@ -330,12 +333,12 @@ module _ (read : Part → List ℕ) (qs : List Parameter) (d : Parameter) (c : C
 
   -- ---- whole
 
-  pub inline : some (collectInline (specOf qs) c) ≡ ends read named (askBinding qs c) result
+  pub inline : some (collectInline (specOf qs) c) ≡ ends read named (bindingMissingFirst qs c) result
   unfolding collectInline
   inline = rw (kinds) (go (isShort (specOf qs) c) refl)
     where
       go : (b : Bool) → isShort (specOf qs) c ≡ b
-          → some (cond b (ok (zipSlots (c .positionals) (replicate (length qs) none))) (collectSlow (specOf qs) c (replicate (length qs) none))) ≡ ends read named (askBinding qs c) result
+          → some (cond b (ok (zipSlots (c .positionals) (replicate (length qs) none))) (collectSlow (specOf qs) c (replicate (length qs) none))) ≡ ends read named (bindingMissingFirst qs c) result
       go true p = short p
       go false p = slow
 

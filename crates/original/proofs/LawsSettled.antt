@@ -21,6 +21,7 @@ use Rattle.rules.specs.Parameters.{Parameter, ParameterKind, required, optional
 use Rattle.rules.specs.Placement.{Slot, taken, isUnfilled, fromP, partner, otherwise, takenOr, slotOf, namedRemainder}
 use Rattle.rules.specs.Binding.{missing, askRequired}
 use Rattle.rules.specs.Passed.{positionalFirst}
+use Rattle.rules.proofs.LawsAnswer.{then-last}
 use Rattle.rules.proofs.LawsListing.{and-left, and-right}
 use Rattle.rules.proofs.LawsText.{sameBytes-eq}
 use Rattle.rules.proofs.LawsFound.{fromP-at}
@@ -267,7 +268,7 @@ module _ (qs : List Parameter) (d : Parameter) (P : List Value) (N : List Named)
         (mapFrom (settledBelow (length qs)) 0 qs) (ok (settledLocals stars low))
         (settle-each (length qs - below) below (omega (arith, short)))
         (λ f. ap (λ (m : List (Option Held)). some (ok (record { slots = m; starArgs = stars; kwargs = lazy (namedRemainder qs N); nextPosition = below; lowestName = low }))) finish)
-        ∙ ap (λ (x : Answer). ends read named x (ok (settledLocals stars low))) (then-nothing (askRequired (drop below qs) (mapFrom (slotOf P N a b) below (drop below qs))) ∙ ask-skipped below (omega arith)))
+        ∙ ap (λ (x : Answer). ends read named x (ok (settledLocals stars low))) (then-last (askRequired (drop below qs) (mapFrom (slotOf P N a b) below (drop below qs))) ∙ ask-skipped below (omega arith)))
       where
         below : ℕ
         below = min (length P) (positionalCount qs)
@@ -284,7 +285,3 @@ module _ (qs : List Parameter) (d : Parameter) (P : List Value) (N : List Named)
 
         finish : mapFrom (settledBelow (length qs)) 0 qs ≡ mapFrom settledSlot 0 qs
         finish = mapFrom-same₀ (settledBelow (length qs)) settledSlot d qs (λ k l. rw (lt-ltb k (length qs) l))
-
-        then-nothing : (x : Answer) → (x then fine) ≡ x
-        then-nothing fine = refl
-        then-nothing (refuse n e) = refl

@@ -26,4 +26,5 @@ pub mod Builder
 pub mod BuiltFills
 pub mod BuiltCollects
 pub mod LawsBoard
+pub mod LawsHidden
 pub mod Whole

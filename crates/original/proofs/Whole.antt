@@ -1,22 +1,24 @@
 -- The Rust's way from two records to its end is 01's: what its builder makes, its check of the written names lets pass and its collector hands
--- back is what 01's collection answers, over all records and boards that pass 1 to 12 and 14; and so is its can-fill, over all that pass 1 to 11.
+-- back is what collection answers in 01's own order of the questions, and ours but where an unknown name is told first (02, §4), over all records
+-- and boards that pass 1 to 12 and 14; and so is its can-fill, over all that pass 1 to 11.
 -- Assumes nothing.
 use mathlib.Core.Path.{_≡_, refl, sym, ap, ap₂, subst, _∙_}
-use mathlib.Core.Bool.{Bool, true, false, false≢true}
-use mathlib.Core.List.{List, map}
+use mathlib.Core.Bool.{Bool, true, false, not, _&&_, false≢true, true≢false}
+use mathlib.Core.List.{List, [], _∷_, map}
 use mathlib.Core.Option.{Option, none, some}
 use Prim.Native.Nat.{ℕ}
 use lib.ListN.{length}
 use Rattle.rules.specs.Answer.{Answer, fine, refuse, _then_, ask, Detail, Part}
 use Rattle.rules.specs.CallRecord.{Call, Named, readCall, namedIn, positionalsOf, namedOf}
 use Rattle.rules.specs.Placement.{place, starRemainder, namedRemainder}
-use Rattle.rules.specs.Binding.{askBinding}
-use Rattle.rules.specs.Parameters.{Parameter}
+use Rattle.rules.specs.UnknownFirst.{bindingMissingFirst, collectionMissingFirst, someName, missingOrSurplus, Tells, UnknownFirst}
+use Rattle.rules.specs.Parameters.{Parameter, hasKwargs}
 use Rattle.rules.specs.ParameterQuestions.{askParameters, listOf}
 use Rattle.rules.specs.CallQuestions.{askForm, askCall, namesDiffer, askBoard}
 use Rattle.rules.specs.CanFill.{answered, fillable}
 use Rattle.rules.specs.Collection.{Outcome, refused, outcomeOf, callOf, askRecords, collection}
 use Rattle.rules.proofs.LawsListing.{map-map}
+use Rattle.rules.proofs.LawsUnknownFirst.{unknown-first}
 use Rattle.original.specs.Spec.{isSome, ParametersSpec, specOf}
 use Rattle.original.specs.Builder.{next, finishedOf}
 use Rattle.original.specs.CheckUnique.{Checked, unique, occursTwice, isUnique, newCheckUnique, writtenNames}
@@ -24,7 +26,7 @@ use Rattle.original.specs.Locals.{Held, FunctionError, Result, ok, err}
 use Rattle.original.specs.Collect as Rust
 use Rattle.original.specs.CanFill.{canFillWithArgs}
 use Rattle.original.specs.Ending.{partBytes, heldIn, errorOf, failing, ends, ending}
-use Rattle.original.specs.Whole.{End, collects, afterBuilding, afterChecking, collectorEnd, rustEnd, InDomain, SameEnd, SameEnds, rustFills}
+use Rattle.original.specs.Whole.{End, collects, afterBuilding, afterChecking, collectorEnd, rustEnd, InDomain, SameEnd, rustHides, SameEnds, rustFills}
 use Rattle.original.proofs.TotalCollect.{collectInline}
 use Rattle.original.proofs.CheckUnique.{check-unique-13}
 use Rattle.original.proofs.Collect.{reads-call, limit-small, collect-original}
@@ -34,8 +36,14 @@ use Rattle.original.proofs.BuiltFills.{same-fill}
 use Rattle.original.proofs.BuiltCollects.{collect-built}
 use Rattle.original.proofs.LawsBuilt.{list-oneArgs, list-oneKwargs}
 use Rattle.original.proofs.LawsBoard.{placed-fine, board-same}
+use Rattle.original.proofs.LawsHidden.{off, hides-same}
 
 -- ---- what an end is by its parts
+
+-- 24 is none of 20 to 23
+told-24 : (vs : List Named) (o : Outcome) → Tells vs o → missingOrSurplus o ≡ false
+told-24 [] o t = absurd t
+told-24 (v ∷ vs) o t = ap missingOrSurplus t
 
 module _ (read : Part → List ℕ) (extra : List Named) (board : List ℕ) where
   -- a check that has found a name twice is 13
@@ -75,12 +83,22 @@ module _ (specCells specBytes callCells callBytes board : List ℕ) where
   abbrev Same : End → Outcome → Type 0
   Same e o = SameEnd read extra board e o
 
-  abbrev outcome : Outcome
-  outcome = collection 64 64 specCells specBytes callCells callBytes board
+  abbrev kwargs : Bool
+  kwargs = hasKwargs qs
 
-  outcome-asked : (a : Answer) → askRecords 64 64 specCells specBytes callCells callBytes board ≡ a → outcome ≡ outcomeOf (a then askBinding qs c) qs (positionalsOf c) (namedOf c) board
-  unfolding collection
-  outcome-asked a e = ap (λ (x : Answer). outcomeOf (x then askBinding qs c) qs (positionalsOf c) (namedOf c) board) e
+  abbrev theirs : End
+  theirs = rustEnd specCells specBytes callCells callBytes
+
+  abbrev ours : Outcome
+  ours = collection 64 64 specCells specBytes callCells callBytes board
+
+  -- in 01's own order
+  abbrev outcome : Outcome
+  outcome = collectionMissingFirst 64 64 specCells specBytes callCells callBytes board
+
+  outcome-asked : (a : Answer) → askRecords 64 64 specCells specBytes callCells callBytes board ≡ a → outcome ≡ outcomeOf (a then bindingMissingFirst qs c) qs (positionalsOf c) (namedOf c) board
+  unfolding collectionMissingFirst
+  outcome-asked a e = ap (λ (x : Answer). outcomeOf (x then bindingMissingFirst qs c) qs (positionalsOf c) (namedOf c) board) e
 
   module _ (d : InDomain specCells specBytes callCells callBytes board) where
     -- 13 is what is left to be asked of the call, and of the records
@@ -97,7 +115,7 @@ module _ (specCells specBytes callCells callBytes board : List ℕ) where
         go false = refl
 
     -- what ends as 15 to 24 answer is the outcome of that answer
-    ends-bound : (a : Answer) (r : Result (List (Option Held))) → askBinding qs c ≡ a
+    ends-bound : (a : Answer) (r : Result (List (Option Held))) → bindingMissingFirst qs c ≡ a
         → some r ≡ ends read extra a (ok (map (heldIn (starRemainder qs (positionalsOf c)) extra) (place qs (positionalsOf c) (namedOf c))))
         → Same (collects r) (outcomeOf a qs (positionalsOf c) (namedOf c) board)
     ends-bound fine r p e =
@@ -119,20 +137,39 @@ module _ (specCells specBytes callCells callBytes board : List ℕ) where
     ends-checked true e =
         ends-unique read extra board checked (collectInline (specOf qs) c) outcome (check-unique-13 callBytes callCells ∙ e)
         (subst (Same (collects (collectInline (specOf qs) c))) (sym (outcome-asked fine (records-asked true e)))
-        (ends-bound (askBinding qs c) (collectInline (specOf qs) c) refl (collect-original 64 64 specCells specBytes callCells callBytes limit-small (d .list-passes) (call-asked true e))))
+        (ends-bound (bindingMissingFirst qs c) (collectInline (specOf qs) c) refl (collect-original 64 64 specCells specBytes callCells callBytes limit-small (d .list-passes) (call-asked true e))))
     ends-checked false e =
         subst (Same (afterChecking checked (collects (collectInline (specOf qs) c)))) (sym (outcome-asked (refuse 13 Detail.none) (records-asked false e)))
         (ends-twice read extra board checked (collectInline (specOf qs) c) (check-unique-13 callBytes callCells ∙ e))
 
--- ---- the two theorems
+    -- so in 01's own order
+    missing-first : Same theirs outcome
+    missing-first = subst (λ (e : End). Same e outcome) (sym past-building) (ends-checked (namesDiffer callBytes (readCall callCells)) refl)
 
--- the Rust ends as 01's collection does, over all records and boards of 01's domain
-pub original-ends : (specCells specBytes callCells callBytes board : List ℕ) → InDomain specCells specBytes callCells callBytes board → SameEnds specCells specBytes callCells callBytes board
-unfolding SameEnds
-original-ends specCells specBytes callCells callBytes board d =
-    subst (λ (e : End). Same specCells specBytes callCells callBytes board e (outcome specCells specBytes callCells callBytes board))
-    (sym (past-building specCells specBytes callCells callBytes board d))
-    (ends-checked specCells specBytes callCells callBytes board d (namesDiffer callBytes (readCall callCells)) refl)
+    hidden-is : rustHides kwargs extra theirs ≡ (not kwargs && someName extra && missingOrSurplus outcome)
+    hidden-is = hides-same read extra board kwargs theirs outcome missing-first
+
+    -- ours differs from it as `unknown-first` tells
+    law : UnknownFirst 64 64 specCells specBytes callCells callBytes board
+    law = unknown-first 64 64 specCells specBytes callCells callBytes board
+
+    -- and what tells unknown names is no end of the Rust that hides them
+    not-hidden : Tells extra ours → Same theirs ours → rustHides kwargs extra theirs ≡ false
+    not-hidden t s =
+        hides-same read extra board kwargs theirs ours s ∙ ap (λ (b : Bool). not kwargs && someName extra && b) (told-24 extra ours t) ∙ sym (off (not kwargs) (someName extra))
+
+    -- ---- the two theorems
+
+    -- the Rust ends as 01's own order of the questions does, and ours as the Rust but where the Rust hides an unknown name, over all records and
+    -- boards of 01's domain
+    pub original-ends : SameEnds specCells specBytes callCells callBytes board
+    original-ends =
+        record {
+          missing-first = missing-first;
+          as-the-rust = λ h. subst (Same theirs) (sym (law .stays (sym hidden-is ∙ h))) missing-first;
+          by-the-new-order = λ h. law .told (sym hidden-is ∙ h);
+          not-the-rust = λ h s. true≢false (sym h ∙ not-hidden (law .told (sym hidden-is ∙ h)) s);
+        }
 
 -- and answers as 01's can-fill does, over all records that pass 1 to 11
 pub original-can-fill : (specCells specBytes callCells callBytes : List ℕ) → askParameters 64 specCells specBytes ≡ fine → askForm 64 callCells callBytes ≡ fine

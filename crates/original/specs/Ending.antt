@@ -1,4 +1,5 @@
--- How the Rust's collector ends where 01's questions 15 to 24 answer so: its result, read off the answer, the placement and the remainders.
+-- How the Rust's collector ends where 01's questions 15 to 24, in 01's own order, answer so: its result, read off the answer, the placement and
+-- the remainders.
 use mathlib.Core.Bool.{Bool, false, cond, _&&_, _||_}
 use mathlib.Core.List.{List, [], _∷_, map}
 use mathlib.Core.Option.{Option, none, some}
@@ -11,7 +12,7 @@ use Rattle.rules.specs.Answer.{Answer, fine, refuse, Detail, name, count, count
 use Rattle.rules.specs.CallRecord.{Call, Named, positionalsOf, namedOf}
 use Rattle.rules.specs.Parameters.{Parameter}
 use Rattle.rules.specs.Placement.{Slot, empty, taken, fromDefault, starCount, namedCount, place, starRemainder, namedRemainder}
-use Rattle.rules.specs.Binding.{askBinding}
+use Rattle.rules.specs.UnknownFirst.{bindingMissingFirst}
 use Rattle.original.specs.Locals.{Held, single, tuple, dict, FunctionError, ArgsArrayIsNotIterable, RepeatedArg, KwArgsIsNotDict, ArgsValueIsNotString, MissingPositionalOnly, MissingNamedOnly, Missing, ExtraPositionalArg, ExtraNamedArg, Result, ok, err}
 
 -- the bytes of a part, in the area that it names
@@ -85,4 +86,4 @@ unfoldable pub ending : List ℕ → List ℕ → List Parameter → Call → Op
 ending specBytes callBytes qs c =
     let stars : List Value = starRemainder qs (positionalsOf c) in
     let named : List Named = namedRemainder qs (namedOf c) in
-    ends (partBytes specBytes callBytes) named (askBinding qs c) (ok (map (heldIn stars named) (place qs (positionalsOf c) (namedOf c))))
+    ends (partBytes specBytes callBytes) named (bindingMissingFirst qs c) (ok (map (heldIn stars named) (place qs (positionalsOf c) (namedOf c))))

@@ -1,9 +1,9 @@
 -- Reworked from starlark 0.14.2, src/eval/runtime/params/spec.rs and src/eval/runtime/arguments.rs, Apache-2.0.
 -- The Rust's way from two records to its end, in one piece: the builder makes the list (spec.rs 112-360), `new_check_unique` looks at the
 -- written names (arguments.rs 146-159), and then the collector (spec.rs 601-851) or can-fill (853-898) is asked. Beside it what it is for such an
--- end to be 01's outcome of a collection.
+-- end to be the outcome of a collection, and for which calls it is.
 use mathlib.Core.Path.{_≡_}
-use mathlib.Core.Bool.{Bool, true, false}
+use mathlib.Core.Bool.{Bool, true, false, not, _&&_}
 use mathlib.Core.List.{List, [], _∷_, _++_, map, flatMap}
 use mathlib.Core.Option.{Option, none, some}
 use Prim.Native.Nat.{ℕ, _+_}
@@ -14,15 +14,17 @@ use Rattle.rules.specs.Text.{sameBytes}
 use Rattle.rules.specs.Value.{Value}
 use Rattle.rules.specs.Answer.{fine, none as noDetail, Part, partOf, callArea}
 use Rattle.rules.specs.CallRecord.{Named, readCall, namedOf}
+use Rattle.rules.specs.Parameters.{hasKwargs}
 use Rattle.rules.specs.Placement.{Counts, namedRemainder}
 use Rattle.rules.specs.ParameterQuestions.{askParameters, listOf}
 use Rattle.rules.specs.CallQuestions.{askForm, entriesDiffer, askBoard}
 use Rattle.rules.specs.Collection.{Outcome, refused, accepted, callOf, collection}
+use Rattle.rules.specs.UnknownFirst.{collectionMissingFirst, someName, Tells}
 use Rattle.rules.specs.CanFill.{Filling, answered}
 use Rattle.original.specs.Spec.{ParametersSpec}
 use Rattle.original.specs.Builder.{next, built}
 use Rattle.original.specs.CheckUnique.{Checked, unique, occursTwice, newCheckUnique, writtenNames}
-use Rattle.original.specs.Locals.{Held, single, tuple, dict, Result, ok, err}
+use Rattle.original.specs.Locals.{Held, single, tuple, dict, FunctionError, ArgsArrayIsNotIterable, RepeatedArg, KwArgsIsNotDict, ArgsValueIsNotString, MissingPositionalOnly, MissingNamedOnly, Missing, ExtraPositionalArg, ExtraNamedArg, Result, ok, err}
 use Rattle.original.specs.Collect.{collectInline}
 use Rattle.original.specs.CanFill.{canFillWithArgs}
 use Rattle.original.specs.Ending.{partBytes, errorOf}
@@ -139,11 +141,53 @@ SameEnd read extra before (collects (err e)) (accepted counts after) = ⊥
 SameEnd read extra before (collects (ok slots)) (refused n d) = ⊥
 SameEnd read extra before (collects (ok slots)) (accepted counts after) = SameSlots read slots before counts after
 
--- the Rust ends as 01's collection does. So neither its builder nor its collector panics, and every refusal of the collection is 13 or one of the collector's errors
-unfoldable pub SameEnds : List ℕ → List ℕ → List ℕ → List ℕ → List ℕ → Type 0
-SameEnds specCells specBytes callCells callBytes board =
-    SameEnd (partBytes specBytes callBytes) (namedRemainder (listOf specCells specBytes) (namedOf (callOf callCells callBytes))) board
-    (rustEnd specCells specBytes callCells callBytes) (collection 64 64 specCells specBytes callCells callBytes board)
+-- ---- where the two orders of the questions part
+
+-- the Rust asks after unknown names last. Is this an error that it finds just before: a missing parameter, or values left over?
+abbrev pub foundBefore24 : FunctionError → Bool
+foundBefore24 ArgsArrayIsNotIterable = false
+foundBefore24 (RepeatedArg name) = false
+foundBefore24 KwArgsIsNotDict = false
+foundBefore24 ArgsValueIsNotString = false
+foundBefore24 (MissingPositionalOnly name) = true
+foundBefore24 (MissingNamedOnly name) = true
+foundBefore24 (Missing name) = true
+foundBefore24 (ExtraPositionalArg n) = true
+foundBefore24 (ExtraNamedArg names) = false
+
+-- an end of the Rust hides an unknown name: there is no **kwargs, the named remainder is not empty, and the error is one of these
+abbrev pub rustHides : Bool → List Named → End → Bool
+rustHides kwargs extra panics = false
+rustHides kwargs extra (writtenTwice bytes) = false
+rustHides kwargs extra (collects (ok slots)) = false
+rustHides kwargs extra (collects (err e)) = not kwargs && someName extra && foundBefore24 e
+
+module _ (specCells specBytes callCells callBytes board : List ℕ) where
+  abbrev pub extra : List Named
+  extra = namedRemainder (listOf specCells specBytes) (namedOf (callOf callCells callBytes))
+
+  abbrev pub theirs : End
+  theirs = rustEnd specCells specBytes callCells callBytes
+
+  abbrev pub ours : Outcome
+  ours = collection 64 64 specCells specBytes callCells callBytes board
+
+  abbrev pub Same : Outcome → Type 0
+  Same o = SameEnd (partBytes specBytes callBytes) extra board theirs o
+
+  abbrev pub hidden : Bool
+  hidden = rustHides (hasKwargs (listOf specCells specBytes)) extra theirs
+
+  -- `hidden` is true or false, so there is no third case
+  pub record SameEnds : Type 0 where
+    -- in 01's own order the questions end as the Rust does, whatever the call. So neither its builder nor its collector panics, and every refusal
+    -- of them is 13 or one of the collector's errors
+    pub missing-first : Same (collectionMissingFirst 64 64 specCells specBytes callCells callBytes board)
+    -- ours ends as the Rust does where the Rust hides no unknown name
+    pub as-the-rust : hidden ≡ false → Same ours
+    -- where it does, ours is taken from the new order (02, §4): it tells the unknown names by 24, and the Rust does not
+    pub by-the-new-order : hidden ≡ true → Tells extra ours
+    pub not-the-rust : hidden ≡ true → Same ours → ⊥
 
 -- ---- can-fill
 

@@ -276,7 +276,7 @@ module _ (qs : List Parameter) (first : positionalFirst qs ≡ true) (apart : na
   unfolding askPlaced
   placed-in-order = rw (place-in-order, star-in-order, named-in-order, required-taken qs (P ++ map valueOf N)) (rests (hasArgs qs) (hasKwargs qs))
     where
-      rests : (a b : Bool) → (askStarRemainder a [] then askNamedRemainder b []) ≡ fine
+      rests : (a b : Bool) → (askNamedRemainder b [] then askStarRemainder a []) ≡ fine
       rests true true = refl
       rests true false = refl
       rests false true = refl

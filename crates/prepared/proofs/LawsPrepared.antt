@@ -22,7 +22,7 @@ use Rattle.rules.specs.CallQuestions.{askCall, askBoard}
 use Rattle.rules.specs.Binding.{askBinding}
 use Rattle.rules.specs.Collection.{callOf, askRecords, collection}
 use Rattle.rules.proofs.LawsListing.{and-left, and-right, and-both, map-map}
-use Rattle.rules.proofs.LawsAnswer.{then-left, then-right, ask-true}
+use Rattle.rules.proofs.LawsAnswer.{then-left, then-right, then-assoc, ask-true}
 use Rattle.rules.proofs.LawsRecord.{length-writeEach, readEach-writeEach}
 use Rattle.rules.proofs.LawsParameters.{names-fine, defaults-fine, steps-fine, list-namesApart}
 use Rattle.rules.proofs.LawsPrinted.{list-few}
@@ -236,10 +236,6 @@ prepared-list spec area out =
     ap (map (parameterOfRow area)) (rows-prepared (getD spec 0 0) (listOf spec area) out)
     ∙ map-map rowOf (parameterOfRow area) (listOf spec area)
     ∙ list-back area posOnly (readParameters spec .steps)
-
-then-assoc : (a b c : Answer) → (a then b then c) ≡ ((a then b) then c)
-then-assoc fine b c = refl
-then-assoc (refuse n d) b c = refl
 
 module _ (spec area out : List ℕ) (passes : askParameters 64 spec area ≡ fine) where
   -- 386 cells are room enough for every list

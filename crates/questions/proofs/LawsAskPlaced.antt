@@ -10,11 +10,11 @@ use borrow.Author.Tests.{lt-ltb, le-ltb}
 use lib.ListN.{length, take, getD}
 use Rattle.rules.specs.Text.{textIn}
 use Rattle.rules.specs.Value.{Value, noValue, readValue}
-use Rattle.rules.specs.Answer.{Answer, fine, refuse, _then_, name, count, countAndName, specArea, callArea, partOf}
+use Rattle.rules.specs.Answer.{Answer, fine, refuse, _then_, Detail, name, count, countAndName, specArea, callArea, partOf}
 use Rattle.rules.specs.CallRecord.{Head, Named, namedIn, readPair}
 use Rattle.rules.specs.Parameters.{Parameter, positionalCount, hasArgs, hasKwargs}
 use Rattle.rules.specs.Placement.{place, starRemainder, namedRemainder}
-use Rattle.rules.specs.Binding.{missing, askStarRemainder, askNamedRemainder, askPlaced}
+use Rattle.rules.specs.Binding.{missing, askRequired, askStarRemainder, askNamedRemainder, askPlaced}
 use Rattle.cells.specs.Record.{pairAt}
 use Rattle.builder.specs.Spec.{indexOf}
 use Rattle.builder.specs.Params.{styleFor, parameterOf, parameterAt, parametersIn}
@@ -27,6 +27,7 @@ use Rattle.calls.specs.Values.{positionalAt}
 use Rattle.questions.specs.Judge.{lostTo, missingAs, firstOf, refusedAt, requiredAs, surplusAs, unknownAs, placedAs, judgedAnswer}
 use Rattle.questions.specs.declared.judge.Judged.{Judged}
 use Rattle.questions.specs.declared.judge.Judged.the-variants.{Fine, Refused}
+use Rattle.answers.specs.declared.answer.Collected.{Collected}
 use Rattle.answers.specs.declared.answer.Collected.the-variants.{ExtraPositionalArg, ExtraNamedArg}
 use Rattle.findings.proofs.LawsAsked.{isSome, missingAt}
 use Rattle.findings.proofs.LawsKinds.{args-found, kwargs-found}
@@ -74,14 +75,17 @@ first-of area cells zero ys v ws e = let z : suc (length ws) ≡ 0 = ap length e
 first-of area cells (suc n) [] v ws e = let z : suc (length ws) ≡ 0 = ap length e in absurd (omega arith)
 first-of area cells (suc n) (y ∷ ys) v ws e = ap firstPayload e
 
--- ---- 23 before 24
+-- ---- a refusal by a test, and what comes after it
 
-in-turn : (a b : Bool) (surplus kept payload : ℕ)
-    → judgedAnswer (firstOf (cond a (Refused (ExtraPositionalArg surplus)) (Fine kept)) (cond b (Refused (ExtraNamedArg kept payload)) (Fine kept)))
-    ≡ (cond a (refuse 23 (count surplus)) fine then cond b (refuse 24 (countAndName kept (placeOf callArea payload))) fine)
-in-turn true b surplus kept payload = refl
-in-turn false true surplus kept payload = refl
-in-turn false false surplus kept payload = refl
+lost-asked : (b : Bool) (x : Collected) (n : ℕ) (d : Detail) (kept : ℕ) (rest : Judged) (after : Answer) → answerIn x ≡ refuse n d → judgedAnswer rest ≡ after
+    → judgedAnswer (firstOf (cond b (Refused x) (Fine kept)) rest) ≡ (cond b (refuse n d) fine then after)
+lost-asked true x n d kept rest after e f = e
+lost-asked false x n d kept rest after e f = f
+
+-- nothing comes after it
+last-asked : (b : Bool) (x : Collected) (n : ℕ) (d : Detail) (kept : ℕ) → answerIn x ≡ refuse n d → judgedAnswer (cond b (Refused x) (Fine kept)) ≡ cond b (refuse n d) fine
+last-asked true x n d kept e = e
+last-asked false x n d kept e = refl
 
 module _ (spec : List ℕ) (l : ParametersSpec) (list : Prepared spec l) (cells area : List ℕ) (P : List Value) (N : List Named) (sources rest : List ℕ) (kept next : ℕ)
     (upto : next ≡ min (length P) (positionalCount (parametersIn spec (l .params)))) (r : Resolved (parametersIn spec (l .params)) cells area N sources rest kept) (few : kept ≤ 128) (h : Head)
@@ -92,29 +96,31 @@ module _ (spec : List ℕ) (l : ParametersSpec) (list : Prepared spec l) (cells 
   first-name : (v : Named) (ws : List Named) → namedRemainder qs N ≡ v ∷ ws → v .name .payload ≡ pairAt cells (getD rest 0 0) .payload
   first-name v ws e = first-of area cells kept rest v ws (sym e ∙ r .rest-is)
 
-  pub remainders-asked : judgedAnswer (firstOf (surplusAs (l .indices) h kept) (unknownAs (l .indices) cells rest kept)) ≡ (askStarRemainder (hasArgs qs) (starRemainder qs P) then askNamedRemainder (hasKwargs qs) (namedRemainder qs N))
-  unfolding surplusAs unknownAs
-  remainders-asked =
-      in-turn (lostTo (h .p + h .s) (l .indices .«num_positional») (indexOf (l .indices .args))) (lostTo kept 0 (indexOf (l .indices .kwargs))) (h .p + h .s - l .indices .«num_positional») kept (pairAt cells (getD rest 0 0) .payload)
-      ∙ sym (ap₂ (λ a b. a then b) surplus left)
-    where
-      surplus
-          : askStarRemainder (hasArgs qs) (starRemainder qs P)
-          ≡ cond (lostTo (h .p + h .s) (l .indices .«num_positional») (indexOf (l .indices .args))) (refuse 23 (count (h .p + h .s - l .indices .«num_positional»))) fine
-      surplus =
-          ap (λ b. askStarRemainder b (starRemainder qs P)) (args-found qs ∙ ap isSome (sym (list .is-list .args)))
-          ∙ star-asked (indexOf (l .indices .args)) (starRemainder qs P) (h .p + h .s) (l .indices .«num_positional») (star-length spec l list cells area P N sources rest kept next upto r few h values long)
+  -- 23, the last
+  surplus-asked : judgedAnswer (surplusAs (l .indices) h kept) ≡ askStarRemainder (hasArgs qs) (starRemainder qs P)
+  unfolding surplusAs
+  surplus-asked =
+      let surplus : ℕ = h .p + h .s - l .indices .«num_positional» in
+      last-asked (lostTo (h .p + h .s) (l .indices .«num_positional») (indexOf (l .indices .args))) (ExtraPositionalArg surplus) 23 (count surplus) kept refl
+      ∙ sym
+      (ap (λ b. askStarRemainder b (starRemainder qs P)) (args-found qs ∙ ap isSome (sym (list .is-list .args)))
+      ∙ star-asked (indexOf (l .indices .args)) (starRemainder qs P) (h .p + h .s) (l .indices .«num_positional») (star-length spec l list cells area P N sources rest kept next upto r few h values long))
 
-      left
-          : askNamedRemainder (hasKwargs qs) (namedRemainder qs N)
-          ≡ cond (lostTo kept 0 (indexOf (l .indices .kwargs))) (refuse 24 (countAndName kept (placeOf callArea (pairAt cells (getD rest 0 0) .payload)))) fine
-      left =
-          ap (λ b. askNamedRemainder b (namedRemainder qs N)) (kwargs-found qs ∙ ap isSome (sym (list .is-list .kwargs)))
-          ∙ named-asked (indexOf (l .indices .kwargs)) (namedRemainder qs N) kept (pairAt cells (getD rest 0 0) .payload) (remainder-length qs cells area N sources rest kept r few) first-name
+  -- 24, the first
+  unknown-asked
+      : askNamedRemainder (hasKwargs qs) (namedRemainder qs N)
+      ≡ cond (lostTo kept 0 (indexOf (l .indices .kwargs))) (refuse 24 (countAndName kept (placeOf callArea (pairAt cells (getD rest 0 0) .payload)))) fine
+  unknown-asked =
+      ap (λ b. askNamedRemainder b (namedRemainder qs N)) (kwargs-found qs ∙ ap isSome (sym (list .is-list .kwargs)))
+      ∙ named-asked (indexOf (l .indices .kwargs)) (namedRemainder qs N) kept (pairAt cells (getD rest 0 0) .payload) (remainder-length qs cells area N sources rest kept r few) first-name
 
   pub placed-asked : judgedAnswer (placedAs (l .params .codes) (l .params .styles) (l .params .names) (l .params .len) (l .indices) cells h next sources rest kept) ≡ askPlaced qs P N
-  unfolding placedAs requiredAs askPlaced place
+  unfolding placedAs requiredAs unknownAs askPlaced place
   placed-asked =
-      missing-asked spec l list (firstMissing (l .params .codes) sources next (l .params .len - next)) kept (firstOf (surplusAs (l .indices) h kept) (unknownAs (l .indices) cells rest kept)) (askStarRemainder (hasArgs qs) (starRemainder qs P) then askNamedRemainder (hasKwargs qs) (namedRemainder qs N)) remainders-asked
-      ∙ ap (λ a. a then askStarRemainder (hasArgs qs) (starRemainder qs P) then askNamedRemainder (hasKwargs qs) (namedRemainder qs N))
-      (sym (required-found spec l list cells area P N sources rest kept next upto r h values (length (starRemainder qs P)) (length (namedRemainder qs N))))
+      let key : ℕ = pairAt cells (getD rest 0 0) .payload in
+      let required : Judged = refusedAt (firstMissing (l .params .codes) sources next (l .params .len - next)) (λ i. missingAs (getD (l .params .styles) i 0) (getD (l .params .names) i 0)) kept in
+      lost-asked (lostTo kept 0 (indexOf (l .indices .kwargs))) (ExtraNamedArg kept key) 24 (countAndName kept (placeOf callArea key)) kept (firstOf required (surplusAs (l .indices) h kept)) _ refl
+      (missing-asked spec l list (firstMissing (l .params .codes) sources next (l .params .len - next)) kept (surplusAs (l .indices) h kept) (askStarRemainder (hasArgs qs) (starRemainder qs P)) surplus-asked
+      ∙ ap (λ a. a then askStarRemainder (hasArgs qs) (starRemainder qs P))
+      (sym (required-found spec l list cells area P N sources rest kept next upto r h values (length (starRemainder qs P)) (length (namedRemainder qs N)))))
+      ∙ ap (λ a. a then askRequired qs (place qs P N) then askStarRemainder (hasArgs qs) (starRemainder qs P)) (sym unknown-asked)

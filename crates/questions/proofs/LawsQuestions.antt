@@ -70,17 +70,17 @@ words-named area cells from qs P before k (suc n) e =
 
 -- ---- the count that 20 to 24 hand on
 
-fine-count : (a b : Bool) (o : Option ℕ) (missing : ℕ → Collected) (x y : Collected) (kept n : ℕ) → firstOf (refusedAt o missing kept) (firstOf (cond a (Refused x) (Fine kept)) (cond b (Refused y) (Fine kept))) ≡ Fine n → kept ≡ n
-fine-count a b (some i) missing x y kept n e = let z : _≡_ {A = ℕ} 0 1 = cc in absurd (omega arith)
-fine-count true b none missing x y kept n e = let z : _≡_ {A = ℕ} 0 1 = cc in absurd (omega arith)
+fine-count : (a b : Bool) (o : Option ℕ) (missing : ℕ → Collected) (x y : Collected) (kept n : ℕ) → firstOf (cond a (Refused x) (Fine kept)) (firstOf (refusedAt o missing kept) (cond b (Refused y) (Fine kept))) ≡ Fine n → kept ≡ n
+fine-count true b o missing x y kept n e = let z : _≡_ {A = ℕ} 0 1 = cc in absurd (omega arith)
+fine-count false b (some i) missing x y kept n e = let z : _≡_ {A = ℕ} 0 1 = cc in absurd (omega arith)
 fine-count false true none missing x y kept n e = let z : _≡_ {A = ℕ} 0 1 = cc in absurd (omega arith)
 fine-count false false none missing x y kept n e = cc
 
 placed-count : (l : ParametersSpec) (cells : List ℕ) (h : Head) (next : ℕ) (sources rest : List ℕ) (kept n : ℕ) → placedAs (l .params .codes) (l .params .styles) (l .params .names) (l .params .len) (l .indices) cells h next sources rest kept ≡ Fine n → kept ≡ n
 unfolding placedAs requiredAs surplusAs unknownAs
 placed-count l cells h next sources rest kept n e =
-    fine-count (lostTo (h .p + h .s) (l .indices .«num_positional») (indexOf (l .indices .args))) (lostTo kept 0 (indexOf (l .indices .kwargs))) (firstMissing (l .params .codes) sources next (l .params .len - next))
-    (λ i. missingAs (getD (l .params .styles) i 0) (getD (l .params .names) i 0)) (ExtraPositionalArg (h .p + h .s - l .indices .«num_positional»)) (ExtraNamedArg kept (pairAt cells (getD rest 0 0) .payload)) kept n e
+    fine-count (lostTo kept 0 (indexOf (l .indices .kwargs))) (lostTo (h .p + h .s) (l .indices .«num_positional») (indexOf (l .indices .args))) (firstMissing (l .params .codes) sources next (l .params .len - next))
+    (λ i. missingAs (getD (l .params .styles) i 0) (getD (l .params .names) i 0)) (ExtraNamedArg kept (pairAt cells (getD rest 0 0) .payload)) (ExtraPositionalArg (h .p + h .s - l .indices .«num_positional»)) kept n e
 
 -- ---- a refusal, which resolves nothing
 
@@ -88,23 +88,23 @@ placed-count l cells h next sources rest kept n e =
 placed-refusing : (l : ParametersSpec) (cells : List ℕ) (h : Head) (next : ℕ) (sources rest : List ℕ) (count : ℕ) → refusing (placedAs (l .params .codes) (l .params .styles) (l .params .names) (l .params .len) (l .indices) cells h next sources rest count) ≡ true
 unfolding placedAs requiredAs surplusAs unknownAs
 placed-refusing l cells h next sources rest count =
-    first (firstMissing (l .params .codes) sources next (l .params .len - next))
-    (lostTo (h .p + h .s) (l .indices .«num_positional») (indexOf (l .indices .args))) (lostTo count 0 (indexOf (l .indices .kwargs)))
+    first (lostTo count 0 (indexOf (l .indices .kwargs))) (firstMissing (l .params .codes) sources next (l .params .len - next))
+    (lostTo (h .p + h .s) (l .indices .«num_positional») (indexOf (l .indices .args)))
   where
     styled : (style payload : ℕ) → refusing (Refused (missingAs style payload)) ≡ true
     styled zero payload = refl
     styled (suc zero) payload = refl
     styled (suc (suc style)) payload = refl
 
-    first : (o : Option ℕ) (a b : Bool)
+    first : (a : Bool) (o : Option ℕ) (b : Bool)
         → refusing
-        (firstOf (refusedAt o (λ i. missingAs (getD (l .params .styles) i 0) (getD (l .params .names) i 0)) count)
-        (firstOf (cond a (Refused (ExtraPositionalArg (h .p + h .s - l .indices .«num_positional»))) (Fine count)) (cond b (Refused (ExtraNamedArg count (pairAt cells (getD rest 0 0) .payload))) (Fine count))))
+        (firstOf (cond a (Refused (ExtraNamedArg count (pairAt cells (getD rest 0 0) .payload))) (Fine count))
+        (firstOf (refusedAt o (λ i. missingAs (getD (l .params .styles) i 0) (getD (l .params .names) i 0)) count) (cond b (Refused (ExtraPositionalArg (h .p + h .s - l .indices .«num_positional»))) (Fine count))))
         ≡ true
-    first (some i) a b = styled (getD (l .params .styles) i 0) (getD (l .params .names) i 0)
-    first none true b = refl
-    first none false true = refl
-    first none false false = refl
+    first true o b = refl
+    first false (some i) b = styled (getD (l .params .styles) i 0) (getD (l .params .names) i 0)
+    first false none true = refl
+    first false none false = refl
 
 pub judged-refused : (qs : List Parameter) (c : Call) (cells area : List ℕ) (asked : Answer) (sources rest : List ℕ) (a : Collected) → refusing (Refused a) ≡ true → answerIn a ≡ asked → Judging qs c cells area asked sources rest (Refused a)
 judged-refused qs c cells area asked sources rest a u e = record { answer = e; refusal = u; resolved = λ count f. let z : _≡_ {A = ℕ} 0 1 = cc in absurd (omega arith) }

@@ -47,6 +47,11 @@ starAs h count = cond (eqb (h .starKind) 2) (Refused ArgsArrayIsNotIterable) (Fi
 unfoldable pub repeatsAs : List ℕ → ℕ → List ℕ → ℕ → Judged
 repeatsAs names next sources count = refusedAt (firstNamed sources 0 next) (λ i. RepeatedParameter (getD names i 0)) count
 
+-- 24
+unfoldable pub unknownAs : DefParamIndices → List ℕ → List ℕ → ℕ → Judged
+unknownAs indices cells rest count =
+    cond (lostTo count 0 (indexOf (indices .kwargs))) (Refused (ExtraNamedArg count (pairAt cells (getD rest 0 0) .payload))) (Fine count)
+
 -- 20 to 22
 unfoldable pub requiredAs : (codes styles names : List ℕ) (len next : ℕ) → List ℕ → ℕ → Judged
 requiredAs codes styles names len next sources count =
@@ -57,15 +62,10 @@ unfoldable pub surplusAs : DefParamIndices → Head → ℕ → Judged
 surplusAs indices h count =
     cond (lostTo (h .p + h .s) (indices .«num_positional») (indexOf (indices .args))) (Refused (ExtraPositionalArg (h .p + h .s - indices .«num_positional»))) (Fine count)
 
--- 24
-unfoldable pub unknownAs : DefParamIndices → List ℕ → List ℕ → ℕ → Judged
-unknownAs indices cells rest count =
-    cond (lostTo count 0 (indexOf (indices .kwargs))) (Refused (ExtraNamedArg count (pairAt cells (getD rest 0 0) .payload))) (Fine count)
-
--- 20 to 24
+-- 20 to 24, the last of them first (02, §4)
 unfoldable pub placedAs : (codes styles names : List ℕ) (len : ℕ) → DefParamIndices → List ℕ → Head → ℕ → List ℕ → List ℕ → ℕ → Judged
 placedAs codes styles names len indices cells h next sources rest count =
-    firstOf (requiredAs codes styles names len next sources count) (firstOf (surplusAs indices h count) (unknownAs indices cells rest count))
+    firstOf (unknownAs indices cells rest count) (firstOf (requiredAs codes styles names len next sources count) (surplusAs indices h count))
 
 pub record PlacedReady (len : ℕ) (h : Head) : Type 0 where
   pub room : len ≤ 64

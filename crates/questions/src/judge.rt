@@ -1,10 +1,11 @@
-// Questions 15 to 24 (01, binding), asked in order before anything is written.
+// Questions 15 to 24 (01, binding; 02, §4), asked in order before anything is written.
 // Reworked from starlark 0.14.2, src/eval/runtime/params/spec.rs (collect_slow), Apache-2.0.
 //
 //     def f(a, /, b, *args, k, **kwargs)
 //
 // 15 the star can be iterated; 16 no slot is filled by position and by a written name; 17 the double star is a dictionary; 18 and 19
-// entry by entry: a text, and free; 20 to 22 no required slot is empty; 23 and 24 what is left over has *args and **kwargs to go to.
+// entry by entry: a text, and free; 24 names of no parameter have **kwargs to go to; 20 to 22 no required slot is empty; 23 what is left over by
+// position has *args to go to. The Rust asks 24 last: an unknown name is told first here, since it may be a missing one misspelled.
 use answers::answer::Collected;
 use builder::params::CAPACITY;
 use builder::spec::DefParamIndices;
@@ -86,7 +87,7 @@ pub(crate) fn ask_repeats<'a>(
     }
 }
 
-// 20 to 24, of names that are resolved, against a list that is lent by its columns: what is missing, then what is left over.
+// 20 to 24, of names that are resolved, against a list that is lent by its columns: what is unknown, what is missing, what is left over.
 pub fn ask_placed<'a>(
     codes: &'a [u8; CAPACITY],
     styles: &'a [u8; CAPACITY],
@@ -103,10 +104,27 @@ pub fn ask_placed<'a>(
     requires { ⌜ PlacedReady len (headOf h) ⌝ }
     ensures { λ r. ⌜ r ≡ placedAs (now (codes .entry)) (now (styles .entry)) (now (names .entry)) len indices (now (cells .entry)) (headOf h) next (now (sources .entry)) (now (rest .entry)) count ⌝ }
 {
+    let unknown = ask_unknown(indices, cells, rest, count);
     let absent = ask_required(codes, styles, names, len, next, sources, count);
     let surplus = ask_surplus(indices, h, count);
-    let unknown = ask_unknown(indices, cells, rest, count);
-    first_of(absent, first_of(surplus, unknown))
+    first_of(unknown, first_of(absent, surplus))
+}
+
+// 24: names of no parameter have **kwargs to go to.
+fn ask_unknown(
+    indices: DefParamIndices,
+    cells: &[u64],
+    rest: &[usize; NAMED],
+    count: usize,
+) -> Judged
+    ensures { λ r. ⌜ r ≡ unknownAs indices (now (cells .entry)) (now (rest .entry)) count ⌝ }
+{
+    let kwargs = indices.kwargs;
+    if lost(count, 0, kwargs) {
+        let key = pair_at(cells, rest[0]);
+        return Judged::Refused(Collected::ExtraNamedArg(count, key.payload));
+    }
+    Judged::Fine(count)
 }
 
 // 20 to 22: each required parameter is given something.
@@ -138,23 +156,6 @@ fn ask_surplus(indices: DefParamIndices, h: Head, count: usize) -> Judged
     let total = h.p + h.s;
     if lost(total, positional, args) {
         return Judged::Refused(Collected::ExtraPositionalArg(total - positional));
-    }
-    Judged::Fine(count)
-}
-
-// 24: names of no parameter have **kwargs to go to.
-fn ask_unknown(
-    indices: DefParamIndices,
-    cells: &[u64],
-    rest: &[usize; NAMED],
-    count: usize,
-) -> Judged
-    ensures { λ r. ⌜ r ≡ unknownAs indices (now (cells .entry)) (now (rest .entry)) count ⌝ }
-{
-    let kwargs = indices.kwargs;
-    if lost(count, 0, kwargs) {
-        let key = pair_at(cells, rest[0]);
-        return Judged::Refused(Collected::ExtraNamedArg(count, key.payload));
     }
     Judged::Fine(count)
 }

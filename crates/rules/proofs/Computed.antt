@@ -1,15 +1,16 @@
--- 01's twelve examples, its example of `bind`, the limits of a sheet, and cuts, printed lists, counts of step lists, accessors and water in the
--- last runs at work, by computation: every definition that they cite is unfolded and each side computed.
+-- 01's twelve examples, the order of 24, 01's example of `bind`, the limits of a sheet, and cuts, printed lists, counts of step lists, accessors
+-- and water in the last runs at work, by computation: every definition that they cite is unfolded and each side computed.
 -- Assumes nothing.
 use mathlib.Core.Path.{refl}
 use lib.Dec.{lit≤}
 use Rattle.rules.specs.Cells.{over}
 use Rattle.rules.specs.Text.{payloadOf}
 use Rattle.rules.specs.Examples.{Twelve, collected, boardBefore, listW, listK, noParameters, stepsW, specBytes, callBytes}
+use Rattle.rules.specs.OrderExamples.{OrderExamples, listOne, listNameable, listNamed}
 use Rattle.rules.specs.CountExamples.{CountExamples, bothCounts, stepsAsked}
 use Rattle.rules.specs.SheetExamples.{SheetExamples, exampleInput, exampleOutput, bindsTo, SheetLimits, judged, listBegun, callBegun, times, withSteps, withRows, listRow, dictRow, valueRows, namedRows, itemRows, entryRows, textRow}
 use Rattle.rules.specs.PrintedExamples.{PrintedExamples, asked, shown, starBytes, steps, allSteps}
-use Rattle.rules.specs.CutExamples.{CutExamples, ends, fills, listM, callBytes as cutBytes}
+use Rattle.rules.specs.CutExamples.{CutExamples, ends, fills, stepsL, listL, listM, callBytes as cutBytes}
 use Rattle.rules.specs.WindowExamples.{WindowExamples, exceeding}
 use Rattle.rules.specs.AccessExamples.{AccessExamples, mapped, mappedCells, placed, placedCells, counted, unnamed, chosen, chosenCells}
 
@@ -26,10 +27,24 @@ twelve =
       four-values = refl;
       positional-only-named = refl;
       positional-only-kept = refl;
-      missing-first = refl;
+      unknown-first = refl;
       star-first = refl;
       whole-key = refl;
       nothing-asked = refl;
+    }
+
+pub order-examples : OrderExamples
+unfolding collected boardBefore listW listK listOne listNameable listNamed stepsW specBytes callBytes payloadOf
+order-examples =
+    record {
+      before-20 = refl;
+      before-21 = refl;
+      before-22 = refl;
+      before-23 = refl;
+      after-19 = refl;
+      after-18 = refl;
+      after-16 = refl;
+      under-kwargs = refl;
     }
 
 pub count-examples : CountExamples
@@ -47,13 +62,15 @@ count-examples =
     }
 
 pub cut-examples : CutExamples
-unfolding ends fills listM listK stepsW specBytes cutBytes boardBefore
+unfolding ends fills stepsL listL listM listK stepsW specBytes cutBytes boardBefore
 cut-examples =
     record {
       accepted-inside = refl;
       accepted-foretold = refl;
       missing-inside = refl;
       missing-foretold = refl;
+      unknown-inside = refl;
+      unknown-foretold = refl;
       repeated-written = refl;
       repeated-entry = refl;
       repeated-foretold = refl;
@@ -62,6 +79,9 @@ cut-examples =
           record { list-passes = refl; values-formed = refl; pairs-formed = refl; no-name-twice = refl; few-values = lit≤ tt; few-names = lit≤ tt; room = lit≤ tt };
       missing-domain =
           record { list-passes = refl; values-formed = refl; pairs-formed = refl; no-name-twice = refl; few-values = lit≤ tt; few-names = lit≤ tt; room = lit≤ tt };
+      unknown-domain =
+          record { list-passes = refl; values-formed = refl; pairs-formed = refl; no-name-twice = refl; few-values = lit≤ tt; few-names = lit≤ tt; room = lit≤ tt };
+      unknown-unplaceable = record { unplaceable = refl; no-kwargs = refl; no-repeat = refl };
       repeated-domain =
           record { list-passes = refl; values-formed = refl; pairs-formed = refl; no-name-twice = refl; few-values = lit≤ tt; few-names = lit≤ tt; room = lit≤ tt };
     }

@@ -1,7 +1,8 @@
--- Demand 3, proved over the definitions: `demand-3`, for every A and B, and `demand-3-64`, its instance at 64 and 64.
+-- Demand 3, proved over the definitions: `demand-3`, for every A and B, and `demand-3-64`, its instance at 64 and 64; and of it `every-cut-told`,
+-- of calls with a name that can't be placed.
 -- Assumes nothing.
 use mathlib.Core.Path.{_≡_, refl, sym, ap, _∙_}
-use mathlib.Core.Bool.{Bool, true, false, cond, not, _&&_}
+use mathlib.Core.Bool.{Bool, true, false, cond, not, _&&_, _||_, false≢true, true≢false}
 use mathlib.Core.List.{List, [], _∷_, map}
 use Prim.Native.Nat.{ℕ, suc, _≤_}
 use native.Mathlib.Nat.{suc-inj}
@@ -9,77 +10,44 @@ use native.Mathlib.Omega.{arith}
 use borrow.Author.Tests.{le-leb, leb-true, ne-eqb}
 use lib.Dec.{leb, eqb}
 use lib.ListN.{length, length-map}
-use Rattle.rules.specs.Listing.{any, mapFrom}
+use Rattle.rules.specs.Listing.{any, keep, mapFrom}
 use Rattle.rules.specs.Value.{Value}
-use Rattle.rules.specs.Answer.{Answer, fine, refuse, _then_, ask, Detail, none, name, partOf, specArea}
+use Rattle.rules.specs.Answer.{Answer, fine, refuse, _then_, Detail, none, name, countAndName, partOf, specArea, callArea}
+use Rattle.rules.specs.ParameterRecord.{encodeParameters}
 use Rattle.rules.specs.CallRecord.{Pair, Named, Call, encodeCall, readCall, namedIn, callIn, positionalsOf, namedOf}
-use Rattle.rules.specs.Parameters.{Style, posOnly, posOrNamed, namedOnly, noMore, Parameter, isRequired, hasArgs, hasKwargs}
+use Rattle.rules.specs.Parameters.{Parameter, isRequired, hasArgs, hasKwargs}
+use Rattle.rules.specs.Lookup.{known}
 use Rattle.rules.specs.ParameterQuestions.{askParameters, listOf}
 use Rattle.rules.specs.Placement.{Slot, isUnfilled, Counts, place, countsOf, starRemainder, namedRemainder}
 use Rattle.rules.specs.Board.{boardLeast, boardAfter}
 use Rattle.rules.specs.CallQuestions.{askForm, askBoard}
 use Rattle.rules.specs.Binding.{namesFilled, missing, askRequired, askStarRemainder, askNamedRemainder, askPlaced, askBinding}
 use Rattle.rules.specs.Collection.{Outcome, refused, accepted, outcomeOf, callOf, askRecords, collection}
+use Rattle.rules.specs.UnknownFirst.{Tells}
 use Rattle.rules.specs.CanFill.{answered, canFill, fillable}
-use Rattle.rules.specs.Demand3.{Cut, cutRecord, wholeRecord, merge, isAccepted, requiredFilled, Domain, Placed, Demand3}
-use Rattle.rules.proofs.LawsListing.{map-map}
+use Rattle.rules.specs.Demand3.{Cut, cutRecord, wholeRecord, merge, isAccepted, requiredFilled, Domain, Placed, Demand3, Unplaceable, EveryCutTold}
+use Rattle.rules.specs.Examples.{specBytes, boardBefore}
+use Rattle.rules.specs.CutExamples.{callBytes, listL, crop, vine, two-values}
+use Rattle.rules.proofs.Computed.{cut-examples}
+use Rattle.rules.proofs.LawsListing.{and-left, map-map}
 use Rattle.rules.proofs.LawsRecord.{readCall-encodeCall}
-use Rattle.rules.proofs.LawsAnswer.{isFine, then-left, fine-refuse}
+use Rattle.rules.proofs.LawsAnswer.{isFine, then-left, then-right, fine-refuse}
+use Rattle.rules.proofs.LawsNumbers.{refusesIn, placed-in}
 use Rattle.rules.proofs.LawsParameters.{list-positionalFirst, list-namesApart}
 use Rattle.rules.proofs.LawsPlacement.{none-lost}
 use Rattle.rules.proofs.LawsBinding.{repeats, repeats-slots, Ended, onwards, by16, by19}
 use Rattle.rules.proofs.LawsCanFill.{canFill-is}
 use Rattle.rules.proofs.LawsCut.{cut-fine, whole-fine, cut-positionals, cut-named, cut-ended}
 
--- ---- 20 to 24 have numbers from 20 on
-
-abbrev late : Answer → Bool
-late fine = true
-late (refuse n d) = leb 20 n
-
-late-then : (a b : Answer) → late a ≡ true → late b ≡ true → late (a then b) ≡ true
-late-then fine b p q = q
-late-then (refuse n d) b p q = p
-
-late-missing : (s : Style) → leb 20 (missing s) ≡ true
-late-missing posOnly = refl
-late-missing posOrNamed = refl
-late-missing namedOnly = refl
-late-missing noMore = refl
-
-late-required : (qs : List Parameter) (ss : List Slot) → late (askRequired qs ss) ≡ true
-late-required [] ss = refl
-late-required (q ∷ qs) [] = refl
-late-required (q ∷ qs) (s ∷ ss) = go (isRequired (q .kind) && isUnfilled s) (late-required qs ss)
-  where
-    go : (b : Bool) → late (askRequired qs ss) ≡ true → late (cond b (refuse (missing (q .style)) (name (partOf specArea (q .name)))) (askRequired qs ss)) ≡ true
-    go true e = late-missing (q .style)
-    go false e = e
-
-late-star : (b : Bool) (vs : List Value) → late (askStarRemainder b vs) ≡ true
-late-star true vs = refl
-late-star false [] = refl
-late-star false (v ∷ vs) = refl
-
-late-named : (b : Bool) (vs : List Named) → late (askNamedRemainder b vs) ≡ true
-late-named true vs = refl
-late-named false [] = refl
-late-named false (v ∷ vs) = refl
-
-late-placed : (qs : List Parameter) (P : List Value) (N : List Named) → late (askPlaced qs P N) ≡ true
-unfolding askPlaced
-late-placed qs P N =
-    late-then (askRequired qs (place qs P N)) (askStarRemainder (hasArgs qs) (starRemainder qs P) then askNamedRemainder (hasKwargs qs) (namedRemainder qs N)) (late-required qs (place qs P N))
-    (late-then (askStarRemainder (hasArgs qs) (starRemainder qs P)) (askNamedRemainder (hasKwargs qs) (namedRemainder qs N)) (late-star (hasArgs qs) (starRemainder qs P)) (late-named (hasKwargs qs) (namedRemainder qs N)))
-
 -- ---- outcomes
 
 module _ (qs : List Parameter) (P : List Value) (N : List Named) (board : List ℕ) where
   -- an outcome that is neither 16 nor 19 merges with itself
-  merge-late : (a : Answer) → late a ≡ true → merge (outcomeOf a qs P N board) ≡ outcomeOf a qs P N board
+  merge-late : (a : Answer) → refusesIn 20 24 a ≡ true → merge (outcomeOf a qs P N board) ≡ outcomeOf a qs P N board
   merge-late fine e = refl
   merge-late (refuse n d) e =
-      rw (ne-eqb n 16 (λ (p : n ≡ 16). absurd (omega (arith, leb-true 20 n e))), ne-eqb n 19 (λ (p : n ≡ 19). absurd (omega (arith, leb-true 20 n e))))
+      let low = leb-true 20 n (and-left (leb 20 n) (leb n 24) e) in
+      rw (ne-eqb n 16 (λ (p : n ≡ 16). absurd (omega arith)), ne-eqb n 19 (λ (p : n ≡ 19). absurd (omega arith)))
 
   refused-by : (a : Answer) (n : ℕ) (d : Detail) → outcomeOf a qs P N board ≡ refused n d → a ≡ refuse n d
   refused-by fine n d e = let z : _≡_ {A = ℕ} 0 1 = cc in absurd (omega arith)
@@ -114,7 +82,9 @@ length-place qs P N = length-mapFrom _ 0 qs
 
 required-asked : (qs : List Parameter) (P : List Value) (N : List Named) → askPlaced qs P N ≡ fine → askRequired qs (place qs P N) ≡ fine
 unfolding askPlaced
-required-asked qs P N e = then-left (askRequired qs (place qs P N)) (askStarRemainder (hasArgs qs) (starRemainder qs P) then askNamedRemainder (hasKwargs qs) (namedRemainder qs N)) e
+required-asked qs P N e =
+    then-left (askRequired qs (place qs P N)) (askStarRemainder (hasArgs qs) (starRemainder qs P))
+    (then-right (askNamedRemainder (hasKwargs qs) (namedRemainder qs N)) (askRequired qs (place qs P N) then askStarRemainder (hasArgs qs) (starRemainder qs P)) e)
 
 -- ---- demand 3
 
@@ -175,7 +145,7 @@ module _ (A B : ℕ) (specCells specBytes callBytes : List ℕ) (P : List Value)
     where
       go : (a : Answer) → Ended (repeats qs P named) a (askPlaced qs P named) → merge (outcomeOf a qs P named board) ≡ common
       go a (onwards r e) =
-          ap (λ x. merge (outcomeOf x qs P named board)) e ∙ merge-late qs P named board (askPlaced qs P named) (late-placed qs P named)
+          ap (λ x. merge (outcomeOf x qs P named board)) e ∙ merge-late qs P named board (askPlaced qs P named) (placed-in qs P named)
           ∙ ap (λ b. cond b (refused 16 none) (outcomeOf (askPlaced qs P named) qs P named board)) (sym r)
       go a (by16 r d e) = ap (λ x. merge (outcomeOf x qs P named board)) e ∙ ap (λ b. cond b (refused 16 none) (outcomeOf (askPlaced qs P named) qs P named board)) (sym r)
       go a (by19 r d e) = ap (λ x. merge (outcomeOf x qs P named board)) e ∙ ap (λ b. cond b (refused 16 none) (outcomeOf (askPlaced qs P named) qs P named board)) (sym r)
@@ -239,6 +209,39 @@ module _ (A B : ℕ) (specCells specBytes callBytes : List ℕ) (P : List Value)
         placed = placed;
       }
 
+  -- 24 is the first of 20 to 24, so an unknown name is told whatever else is wrong with P and N
+  placed-unknown : (v : Named) (vs : List Named) → hasKwargs qs ≡ false → namedRemainder qs named ≡ v ∷ vs
+      → askPlaced qs P named ≡ refuse 24 (countAndName (length (v ∷ vs)) (partOf callArea (v .name)))
+  unfolding askPlaced
+  placed-unknown v vs without is = rw (without, is)
+
+  -- where a name can't be placed, the remainder has one
+  kept-some : (test : Named → Bool) (vs : List Named) → any test vs ≡ true → keep test vs ≡ [] → ⊥
+  kept-some test [] e f = false≢true e
+  kept-some test (v ∷ vs) e f = go (test v) e f (kept-some test vs)
+    where
+      go : (b : Bool) → (b || any test vs) ≡ true → cond b (v ∷ keep test vs) (keep test vs) ≡ [] → (any test vs ≡ true → keep test vs ≡ [] → ⊥) → ⊥
+      go true p q ih = let z : suc (length (keep test vs)) ≡ 0 = ap length q in omega arith
+      go false p q ih = ih p q
+
+  pub every-cut-told : Unplaceable A B specCells specBytes callBytes P N board → EveryCutTold A B specCells specBytes callBytes P N board
+  unfolding namedRemainder repeats
+  every-cut-told u c = go (namedRemainder qs named) refl
+    where
+      go : (vs : List Named) → namedRemainder qs named ≡ vs → Tells vs (ending c)
+      go [] is = kept-some (λ v. not (known qs (v .name .bytes))) named (u .unplaceable) is
+      go (v ∷ vs) is = ending-is c ∙ ap (λ a. outcomeOf a qs P named board) (by (askBinding qs (callOf (cells c) callBytes)) (ended c))
+        where
+          by : (a : Answer) → Ended (repeats qs P named) a (askPlaced qs P named) → a ≡ refuse 24 (countAndName (length (v ∷ vs)) (partOf callArea (v .name)))
+          by a (onwards r e) = e ∙ placed-unknown v vs (u .no-kwargs) is
+          by a (by16 r d e) = absurd (true≢false (sym r ∙ u .no-repeat))
+          by a (by19 r d e) = absurd (true≢false (sym r ∙ u .no-repeat))
+
 -- at 01's own limits
 pub demand-3-64 : (specCells specBytes callBytes : List ℕ) (P : List Value) (N : List Pair) (board : List ℕ) → Domain 64 64 specCells specBytes callBytes P N board → Demand3 64 64 specCells specBytes callBytes P N board
 demand-3-64 = demand-3 64 64
+
+-- every cut of the examples' two values, crop= and vine=, those strictly inside both among them
+pub crop-vine-told : EveryCutTold 64 64 (encodeParameters listL) specBytes callBytes two-values (crop ∷ vine ∷ []) boardBefore
+crop-vine-told =
+    every-cut-told 64 64 (encodeParameters listL) specBytes callBytes two-values (crop ∷ vine ∷ []) boardBefore (cut-examples .unknown-domain) (cut-examples .unknown-unplaceable)

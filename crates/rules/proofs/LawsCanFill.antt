@@ -132,20 +132,18 @@ canFill-is qs P N differs =
         ∙ twice-not (anyFrom (λ i q. isRequired (q .kind) && isUnfilled (slotOf P N (length (starRemainder qs P)) (length (namedRemainder qs N)) i q)) 0 qs)
         ∙ ap not (sym (required-fine (slotOf P N (length (starRemainder qs P)) (length (namedRemainder qs N))) 0 qs))
 
-    shuffle : (a r c d : Bool) → (a && not r && c && not (not d)) ≡ (not r && (d && (a && c)))
-    shuffle true true true true = refl
-    shuffle true true true false = refl
-    shuffle true true false d = refl
+    shuffle : (a r c d : Bool) → (a && not r && c && not (not d)) ≡ (not r && (c && (d && a)))
+    shuffle true true c d = refl
     shuffle true false true true = refl
     shuffle true false true false = refl
-    shuffle true false false true = refl
-    shuffle true false false false = refl
+    shuffle true false false d = refl
     shuffle false true c d = refl
-    shuffle false false c true = refl
-    shuffle false false c false = refl
+    shuffle false false true true = refl
+    shuffle false false true false = refl
+    shuffle false false false d = refl
 
-    chain : isFine (askRequired qs (place qs P N) then askStarRemainder (hasArgs qs) (starRemainder qs P) then askNamedRemainder (hasKwargs qs) (namedRemainder qs N))
-        ≡ (isFine (askRequired qs (place qs P N)) && (isFine (askStarRemainder (hasArgs qs) (starRemainder qs P)) && isFine (askNamedRemainder (hasKwargs qs) (namedRemainder qs N))))
+    chain : isFine (askNamedRemainder (hasKwargs qs) (namedRemainder qs N) then askRequired qs (place qs P N) then askStarRemainder (hasArgs qs) (starRemainder qs P))
+        ≡ (isFine (askNamedRemainder (hasKwargs qs) (namedRemainder qs N)) && (isFine (askRequired qs (place qs P N)) && isFine (askStarRemainder (hasArgs qs) (starRemainder qs P))))
     chain =
-        isFine-then (askRequired qs (place qs P N)) (askStarRemainder (hasArgs qs) (starRemainder qs P) then askNamedRemainder (hasKwargs qs) (namedRemainder qs N))
-        ∙ ap (λ b. isFine (askRequired qs (place qs P N)) && b) (isFine-then (askStarRemainder (hasArgs qs) (starRemainder qs P)) (askNamedRemainder (hasKwargs qs) (namedRemainder qs N)))
+        isFine-then (askNamedRemainder (hasKwargs qs) (namedRemainder qs N)) (askRequired qs (place qs P N) then askStarRemainder (hasArgs qs) (starRemainder qs P))
+        ∙ ap (λ b. isFine (askNamedRemainder (hasKwargs qs) (namedRemainder qs N)) && b) (isFine-then (askRequired qs (place qs P N)) (askStarRemainder (hasArgs qs) (starRemainder qs P)))

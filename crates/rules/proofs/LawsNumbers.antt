@@ -1,5 +1,5 @@
 -- Which numbers the questions refuse with: a parameter record's with 1 to 7, a call record's with 9 to 13, the board's with 14, those of binding
--- with 15 to 24. Before them: a chain refuses with numbers that pass a test where each of its questions does, and what that says of a refusal.
+-- with 15 to 19 as long as they read the arguments, then with 20 to 24. Before them: a chain refuses with numbers that pass a test where each of its questions does, and what that says of a refusal.
 -- Assumes nothing.
 use mathlib.Core.Path.{_≡_, refl, sym, ap, _∙_}
 use mathlib.Core.Bool.{Bool, true, false, cond, _&&_, _||_}
@@ -19,9 +19,10 @@ use Rattle.rules.specs.ParameterQuestions.{wholeSteps, codesKnown, names
 use Rattle.rules.specs.Placement.{Slot, isUnfilled, fromP, place, starRemainder, namedRemainder}
 use Rattle.rules.specs.Board.{boardLeast}
 use Rattle.rules.specs.CallQuestions.{lengthsRight, kindsRight, partsWellFormed, entriesDiffer, namesDiffer, askForm, askCall, askBoard}
-use Rattle.rules.specs.Binding.{starPasses, doublePasses, textsOf, namedBy, askRepeats, namesFilled, askEntry, askEntries, missing, askRequired, askStarRemainder, askNamedRemainder, askPlaced, askBinding}
+use Rattle.rules.specs.Binding.{starPasses, doublePasses, textsOf, namedBy, askRepeats, namesFilled, askEntry, askEntries, missing, askRequired, askStarRemainder, askNamedRemainder, askGiven, askPlaced, askBinding}
 use Rattle.rules.specs.Collection.{refused, outcomeOf}
 use Rattle.rules.proofs.LawsListing.{and-left, and-right, and-both}
+use Rattle.rules.proofs.LawsAnswer.{given-then}
 
 -- ---- chains
 
@@ -123,71 +124,85 @@ pub board-in : (A B : ℕ) (board : List ℕ) → refusesIn 14 14 (askBoard A B 
 unfolding askBoard
 board-in A B board = ask-by (numberIn 14 14) 14 (leb (boardLeast A B) (length board)) refl
 
--- ---- 15 to 24
+-- ---- 15 to 19
 
--- a refusal of binding
-abbrev bindingIn : Answer → Bool
-bindingIn a = refusesIn 15 24 a
-
-repeats-in : (P : List Value) (written : List Named) (i : ℕ) (qs : List Parameter) → bindingIn (askRepeats P written i qs) ≡ true
+repeats-in : (P : List Value) (written : List Named) (i : ℕ) (qs : List Parameter) → refusesIn 15 19 (askRepeats P written i qs) ≡ true
 repeats-in P written i [] = refl
 repeats-in P written i (q ∷ qs) = go (fromP P i q && namedBy written q) (repeats-in P written (suc i) qs)
   where
-    go : (b : Bool) → bindingIn (askRepeats P written (suc i) qs) ≡ true
-        → bindingIn (cond b (refuse 16 (name (partOf specArea (q .name)))) (askRepeats P written (suc i) qs)) ≡ true
+    go : (b : Bool) → refusesIn 15 19 (askRepeats P written (suc i) qs) ≡ true
+        → refusesIn 15 19 (cond b (refuse 16 (name (partOf specArea (q .name)))) (askRepeats P written (suc i) qs)) ≡ true
     go true h = refl
     go false h = h
 
-entry-in : (qs : List Parameter) (P : List Value) (before : List Named) (k : Key) → bindingIn (askEntry qs P before k) ≡ true
+entry-in : (qs : List Parameter) (P : List Value) (before : List Named) (k : Key) → refusesIn 15 19 (askEntry qs P before k) ≡ true
 entry-in qs P before (word t) = go (namesFilled P 0 qs (t .bytes) || among (t .bytes) (textsOf before))
   where
-    go : (b : Bool) → bindingIn (cond b (refuse 19 (name (partOf callArea t))) fine) ≡ true
+    go : (b : Bool) → refusesIn 15 19 (cond b (refuse 19 (name (partOf callArea t))) fine) ≡ true
     go true = refl
     go false = refl
 entry-in qs P before (number n) = refl
 
-pub entries-in : (qs : List Parameter) (P : List Value) (before : List Named) (es : List Entry) → refusesIn 15 24 (askEntries qs P before es) ≡ true
+pub entries-in : (qs : List Parameter) (P : List Value) (before : List Named) (es : List Entry) → refusesIn 15 19 (askEntries qs P before es) ≡ true
 entries-in qs P before [] = refl
 entries-in qs P before (e ∷ es) =
-    then-by (numberIn 15 24) (askEntry qs P before (e .key)) (askEntries qs P (before ++ wordOf (e .key) (e .value)) es) (entry-in qs P before (e .key))
+    then-by (numberIn 15 19) (askEntry qs P before (e .key)) (askEntries qs P (before ++ wordOf (e .key) (e .value)) es) (entry-in qs P before (e .key))
     (entries-in qs P (before ++ wordOf (e .key) (e .value)) es)
 
-required-in : (qs : List Parameter) (ss : List Slot) → bindingIn (askRequired qs ss) ≡ true
+pub given-in : (qs : List Parameter) (c : Call) → refusesIn 15 19 (askGiven qs c fine) ≡ true
+given-in qs c =
+    let repeats : Answer = askRepeats (positionalsOf c) (c .named) 0 qs in
+    let seventeen : Answer = ask 17 (doublePasses (c .double)) in
+    let entries : Answer = askEntries qs (positionalsOf c) (c .named) (entriesOf (c .double)) in
+    then-by (numberIn 15 19) (ask 15 (starPasses (c .star))) (repeats then seventeen then entries then fine) (ask-by (numberIn 15 19) 15 (starPasses (c .star)) refl)
+    (then-by (numberIn 15 19) repeats (seventeen then entries then fine) (repeats-in (positionalsOf c) (c .named) 0 qs)
+    (then-by (numberIn 15 19) seventeen (entries then fine) (ask-by (numberIn 15 19) 17 (doublePasses (c .double)) refl)
+    (then-by (numberIn 15 19) entries fine (entries-in qs (positionalsOf c) (c .named) (entriesOf (c .double))) refl)))
+
+-- ---- 20 to 24
+
+required-in : (qs : List Parameter) (ss : List Slot) → refusesIn 20 23 (askRequired qs ss) ≡ true
 required-in [] ss = refl
 required-in (q ∷ qs) [] = refl
 required-in (q ∷ qs) (s ∷ ss) = go (isRequired (q .kind) && isUnfilled s) (q .style) (required-in qs ss)
   where
-    go : (b : Bool) (style : Style) → bindingIn (askRequired qs ss) ≡ true
-        → bindingIn (cond b (refuse (missing style) (name (partOf specArea (q .name)))) (askRequired qs ss)) ≡ true
+    go : (b : Bool) (style : Style) → refusesIn 20 23 (askRequired qs ss) ≡ true
+        → refusesIn 20 23 (cond b (refuse (missing style) (name (partOf specArea (q .name)))) (askRequired qs ss)) ≡ true
     go true posOnly h = refl
     go true posOrNamed h = refl
     go true namedOnly h = refl
     go true noMore h = refl
     go false style h = h
 
-star-in : (b : Bool) (vs : List Value) → bindingIn (askStarRemainder b vs) ≡ true
+star-in : (b : Bool) (vs : List Value) → refusesIn 20 23 (askStarRemainder b vs) ≡ true
 star-in true vs = refl
 star-in false [] = refl
 star-in false (v ∷ vs) = refl
 
-pub named-in : (b : Bool) (vs : List Named) → refusesIn 15 24 (askNamedRemainder b vs) ≡ true
+-- what 24 comes before
+pub late-in : (qs : List Parameter) (P : List Value) (N : List Named) → refusesIn 20 23 (askRequired qs (place qs P N) then askStarRemainder (hasArgs qs) (starRemainder qs P)) ≡ true
+late-in qs P N =
+    then-by (numberIn 20 23) (askRequired qs (place qs P N)) (askStarRemainder (hasArgs qs) (starRemainder qs P)) (required-in qs (place qs P N)) (star-in (hasArgs qs) (starRemainder qs P))
+
+pub named-in : (b : Bool) (vs : List Named) → refusesIn 20 24 (askNamedRemainder b vs) ≡ true
 named-in true vs = refl
 named-in false [] = refl
 named-in false (v ∷ vs) = refl
 
+pub placed-in : (qs : List Parameter) (P : List Value) (N : List Named) → refusesIn 20 24 (askPlaced qs P N) ≡ true
+unfolding askPlaced
+placed-in qs P N =
+    let late : Answer = askRequired qs (place qs P N) then askStarRemainder (hasArgs qs) (starRemainder qs P) in
+    then-by (numberIn 20 24) (askNamedRemainder (hasKwargs qs) (namedRemainder qs N)) late (named-in (hasKwargs qs) (namedRemainder qs N))
+    (wider-in 20 23 20 24 late (omega arith) (omega arith) (late-in qs P N))
+
+-- ---- 15 to 24
+
 pub binding-in : (qs : List Parameter) (c : Call) → refusesIn 15 24 (askBinding qs c) ≡ true
-unfolding askBinding askPlaced
+unfolding askBinding
 binding-in qs c =
-    let P : List Value = positionalsOf c in
-    let repeats : Answer = askRepeats P (c .named) 0 qs in
-    let seventeen : Answer = ask 17 (doublePasses (c .double)) in
-    let entries : Answer = askEntries qs P (c .named) (entriesOf (c .double)) in
-    let required : Answer = askRequired qs (place qs P (namedOf c)) in
-    let fromStar : Answer = askStarRemainder (hasArgs qs) (starRemainder qs P) in
-    let fromNames : Answer = askNamedRemainder (hasKwargs qs) (namedRemainder qs (namedOf c)) in
-    then-by (numberIn 15 24) (ask 15 (starPasses (c .star))) (repeats then seventeen then entries then required then fromStar then fromNames) (ask-by (numberIn 15 24) 15 (starPasses (c .star)) refl)
-    (then-by (numberIn 15 24) repeats (seventeen then entries then required then fromStar then fromNames) (repeats-in P (c .named) 0 qs)
-    (then-by (numberIn 15 24) seventeen (entries then required then fromStar then fromNames) (ask-by (numberIn 15 24) 17 (doublePasses (c .double)) refl)
-    (then-by (numberIn 15 24) entries (required then fromStar then fromNames) (entries-in qs P (c .named) (entriesOf (c .double)))
-    (then-by (numberIn 15 24) required (fromStar then fromNames) (required-in qs (place qs P (namedOf c)))
-    (then-by (numberIn 15 24) fromStar fromNames (star-in (hasArgs qs) (starRemainder qs P)) (named-in (hasKwargs qs) (namedRemainder qs (namedOf c))))))))
+    let placed : Answer = askPlaced qs (positionalsOf c) (namedOf c) in
+    rw (given-then qs c placed)
+    (then-by (numberIn 15 24) (askGiven qs c fine) placed
+    (wider-in 15 19 15 24 (askGiven qs c fine) (omega arith) (omega arith) (given-in qs c))
+    (wider-in 20 24 15 24 placed (omega arith) (omega arith) (placed-in qs (positionalsOf c) (namedOf c))))

@@ -64,9 +64,6 @@ call-other B cells area = later-other 9 13 (omega arith) (askCall B cells area) 
 board-other : (A B : ℕ) (board : List ℕ) → refusesBy other (askBoard A B board) ≡ true
 board-other A B board = later-other 14 14 (omega arith) (askBoard A B board) (board-in A B board)
 
-binding-other : (a : Answer) → refusesIn 15 24 a ≡ true → refusesBy other a ≡ true
-binding-other a e = later-other 15 24 (omega arith) a e
-
 -- ---- records
 
 collected : (A B : ℕ) (specCells spec callCells call board : List ℕ) (d : Detail) → collection A B specCells spec callCells call board ≡ refused 8 d → ⊥
@@ -81,7 +78,7 @@ collected A B specCells spec callCells call board d e =
     (outcome-by other ((list then given then last) then askBinding qs c) qs (positionalsOf c) (namedOf c) board 8 d
     (then-by other (list then given then last) (askBinding qs c)
     (then-by other list (given then last) (list-other A specCells spec) (then-by other given last (call-other B callCells call) (board-other A B board)))
-    (binding-other (askBinding qs c) (binding-in qs c)))
+    (later-other 15 24 (omega arith) (askBinding qs c) (binding-in qs c)))
     e)
 
 filling-other : (a : Answer) (b : Bool) (d : Detail) → refusesBy other a ≡ true → fillingOf a b ≡ refusedFilling 8 d → ⊥
@@ -125,7 +122,7 @@ names A B cells area out d e =
     access-other (askWriting A B cells area out then seventeen then entries) (length (namedOf c)) d
     (writing-other A B cells area out (seventeen then entries)
     (then-by other seventeen entries (ask-by other 17 (doublePasses (c .double)) refl)
-    (binding-other entries (entries-in [] [] (c .named) (entriesOf (c .double))))))
+    (later-other 15 19 (omega arith) entries (entries-in [] [] (c .named) (entriesOf (c .double))))))
     e
 
 values : (A B : ℕ) (cells area out : List ℕ) (d : Detail) → positions A B cells area out ≡ denied 8 d → ⊥
@@ -157,7 +154,7 @@ unnamed B cells area d e =
     access-other (askCall B cells area then seventeen then ask 18 words then left) 0 d
     (then-by other (askCall B cells area) (seventeen then ask 18 words then left) (call-other B cells area)
     (then-by other seventeen (ask 18 words then left) (ask-by other 17 (doublePasses (c .double)) refl)
-    (then-by other (ask 18 words) left (ask-by other 18 words refl) (binding-other left (named-in false (namedOf c))))))
+    (then-by other (ask 18 words) left (ask-by other 18 words refl) (later-other 20 24 (omega arith) left (named-in false (namedOf c))))))
     e
 
 number-other : (required more got : ℕ) → refusesBy other (askNumber required more got) ≡ true

@@ -115,7 +115,7 @@ module _ (qs : List Parameter) (P : List Value) (all-of : positionalCount qs ≡
   unfolding askPlaced namedRemainder
   placed-short = rw (place-short, star-short, required-taken qs P) (rests (hasArgs qs) (hasKwargs qs))
     where
-      rests : (a b : Bool) → (askStarRemainder a [] then askNamedRemainder b []) ≡ fine
+      rests : (a b : Bool) → (askNamedRemainder b [] then askStarRemainder a []) ≡ fine
       rests true true = refl
       rests true false = refl
       rests false true = refl

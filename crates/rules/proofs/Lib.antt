@@ -12,6 +12,7 @@ pub mod LawsParameters
 pub mod LawsPrinted
 pub mod LawsPlacement
 pub mod LawsBinding
+pub mod LawsUnknownFirst
 pub mod LawsCanFill
 pub mod LawsCut
 pub mod LawsFound

@@ -1,4 +1,5 @@
--- Questions 15 to 24 (01, the questions, binding), in the order in which the Rust's `collect_slow` reports.
+-- Questions 15 to 24 (01, the questions, binding), in the order in which the Rust's `collect_slow` reports, but that 24 comes directly after the
+-- entries (02, §4): 15, 16, 17, 18 and 19, 24, 20 to 22, 23.
 use mathlib.Core.Bool.{Bool, true, false, cond, not, _&&_, _||_}
 use mathlib.Core.List.{List, [], _∷_, _++_, map}
 use Prim.Native.Nat.{ℕ, suc}
@@ -53,6 +54,12 @@ abbrev pub askEntries : List Parameter → List Value → List Named → List En
 askEntries qs P before [] = fine
 askEntries qs P before (e ∷ es) = askEntry qs P before (e .key) then askEntries qs P (before ++ wordOf (e .key) (e .value)) es
 
+-- 24: names of no parameter have **kwargs to go to. The detail is how many there are, and the first of them
+abbrev pub askNamedRemainder : Bool → List Named → Answer
+askNamedRemainder true vs = fine
+askNamedRemainder false [] = fine
+askNamedRemainder false (v ∷ vs) = refuse 24 (countAndName (length (v ∷ vs)) (partOf callArea (v .name)))
+
 -- the number for a missing parameter goes by how it could have been given: 20 by position alone, 22 by name alone, 21 either way
 abbrev pub missing : Style → ℕ
 missing posOnly = 20
@@ -73,26 +80,23 @@ askStarRemainder true vs = fine
 askStarRemainder false [] = fine
 askStarRemainder false (v ∷ vs) = refuse 23 (count (length (v ∷ vs)))
 
--- 24: names of no parameter have **kwargs to go to. The detail is how many there are, and the first of them
-abbrev pub askNamedRemainder : Bool → List Named → Answer
-askNamedRemainder true vs = fine
-askNamedRemainder false [] = fine
-askNamedRemainder false (v ∷ vs) = refuse 24 (countAndName (length (v ∷ vs)) (partOf callArea (v .name)))
+-- 15 to 19, which are asked of the arguments as they are given, and then `later`: the star value is iterated before repeats are looked for
+abbrev pub askGiven : List Parameter → Call → Answer → Answer
+askGiven qs c later =
+    ask 15 (starPasses (c .star))
+    then askRepeats (positionalsOf c) (c .named) 0 qs
+    then ask 17 (doublePasses (c .double))
+    then askEntries qs (positionalsOf c) (c .named) (entriesOf (c .double))
+    then later
 
--- 20 to 24, which read P and N alone
+-- 20 to 24, which read P and N alone: an unknown name is reported before a missing parameter, whose name misspelled it may be, and before
+-- surplus values (02, §4)
 unfoldable pub askPlaced : List Parameter → List Value → List Named → Answer
 askPlaced qs P N =
-    askRequired qs (place qs P N)
+    askNamedRemainder (hasKwargs qs) (namedRemainder qs N)
+    then askRequired qs (place qs P N)
     then askStarRemainder (hasArgs qs) (starRemainder qs P)
-    then askNamedRemainder (hasKwargs qs) (namedRemainder qs N)
 
--- questions 15 to 24 of a call against a list, in their order: the star value is iterated before repeats are looked for, and
--- a missing parameter is reported before an unknown name
+-- questions 15 to 24 of a call against a list, in their order
 unfoldable pub askBinding : List Parameter → Call → Answer
-askBinding qs c =
-    let P : List Value = positionalsOf c in
-    ask 15 (starPasses (c .star))
-    then askRepeats P (c .named) 0 qs
-    then ask 17 (doublePasses (c .double))
-    then askEntries qs P (c .named) (entriesOf (c .double))
-    then askPlaced qs P (namedOf c)
+askBinding qs c = askGiven qs c (askPlaced qs (positionalsOf c) (namedOf c))

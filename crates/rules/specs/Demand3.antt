@@ -1,23 +1,26 @@
 -- Demand 3, stated: however the values P and the named values N of a call are cut into written arguments and a * list and ** dictionary
--- for the rests, the calls end alike, can-fill foretells how, and an accepted call places P and N. The proof is `demand-3` of proofs/.
+-- for the rests, the calls end alike, can-fill foretells how, and an accepted call places P and N. The proof is `demand-3` of proofs/, and
+-- `every-cut-told` of it is that of the last statement, about calls with a name that can't be placed.
 use mathlib.Core.Path.{_≡_}
 use mathlib.Core.Bool.{Bool, true, false, cond, not, _&&_, _||_}
 use mathlib.Core.List.{List, [], _∷_, map}
 use Prim.Native.Nat.{ℕ, _+_, _≤_}
 use lib.Dec.{eqb}
 use lib.ListN.{length, take, drop}
-use Rattle.rules.specs.Listing.{all}
+use Rattle.rules.specs.Listing.{all, any}
 use Rattle.rules.specs.Text.{differ}
 use Rattle.rules.specs.Value.{Value, wellFormedArgument}
 use Rattle.rules.specs.Answer.{fine, refuse, Detail, none}
 use Rattle.rules.specs.CallRecord.{Pair, CallRecord, Named, encodeCall, namedIn}
-use Rattle.rules.specs.Parameters.{Parameter, isRequired}
+use Rattle.rules.specs.Parameters.{Parameter, isRequired, hasKwargs}
+use Rattle.rules.specs.Lookup.{known}
 use Rattle.rules.specs.ParameterQuestions.{askParameters, listOf}
-use Rattle.rules.specs.Placement.{Slot, isUnfilled, Counts, place, countsOf}
+use Rattle.rules.specs.Placement.{Slot, isUnfilled, Counts, place, namedRemainder, countsOf}
 use Rattle.rules.specs.Board.{boardLeast, boardAfter}
 use Rattle.rules.specs.CallQuestions.{wellFormedPair}
-use Rattle.rules.specs.Binding.{askPlaced, askBinding, textsOf}
+use Rattle.rules.specs.Binding.{namesFilled, askPlaced, askBinding, textsOf}
 use Rattle.rules.specs.Collection.{Outcome, refused, accepted, callOf, askRecords, collection}
+use Rattle.rules.specs.UnknownFirst.{Tells}
 use Rattle.rules.specs.CanFill.{answered, fillable}
 
 -- a cut: how many of P and of N are written out, and whether a rest that is empty is given all the same
@@ -109,3 +112,13 @@ module _ (A B : ℕ) (specCells specBytes callBytes : List ℕ) (P : List Value)
     pub foretold : (c : Cut) → fillable A B specCells specBytes (encodeCall (wholeRecord P N)) callBytes ≡ answered (isAccepted (ending c))
     -- an accepted cut's counts and board are those of placement, no required slot is empty, no value is lost
     pub placed : (c : Cut) (counts : Counts) (after : List ℕ) → ending c ≡ accepted counts after → Placed counts after
+
+  -- 02, §4: a name of N that is none of the list's, no **kwargs, and no name of N that is that of a slot filled from P
+  pub record Unplaceable : Type 0 where
+    pub unplaceable : any (λ v. not (known parameters (v .name .bytes))) named ≡ true
+    pub no-kwargs : hasKwargs parameters ≡ false
+    pub no-repeat : any (λ v. namesFilled P 0 parameters (v .name .bytes)) named ≡ false
+
+  -- then every cut ends in the same 24: the count of such names and the first of them are read off N alone
+  abbrev pub EveryCutTold : Type 0
+  EveryCutTold = (c : Cut) → Tells (namedRemainder parameters named) (ending c)

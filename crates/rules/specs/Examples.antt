@@ -1,5 +1,5 @@
--- 01's twelve proved examples, on records that the encoders make, as one joint fact about collection. Its proof is `twelve`
--- of proofs/.
+-- 01's twelve proved examples, the ninth as 02's §4 amends it, on records that the encoders make, as one joint fact about collection. Its proof
+-- is `twelve` of proofs/.
 -- W is 01's list `water(block, /, start, minutes = 30)`, K is W with **kwargs.
 use mathlib.Core.Path.{_≡_}
 use mathlib.Core.List.{List, [], _∷_, _++_}
@@ -112,8 +112,8 @@ pub record Twelve : Type 0 where
       outcome listK (written-out (whole 1 ∷ []) (start ∷ block ∷ []))
       ≡ accepted (record { taken = 2; defaulted = 1; star = 0; named = 1 })
       (over (3 ∷ 1 ∷ 3 ∷ 400 ∷ 3 ∷ 30 ∷ 9 ∷ 1 ∷ 6 ∷ 1285 ∷ 3 ∷ 7 ∷ []) boardBefore)
-  -- (9) W, start=, block=: 20
-  pub missing-first : outcome listW (written-out [] (start ∷ block ∷ [])) ≡ refused 20 (name (spec 5 5))
+  -- (9) W, start=, block=: 24 block (02, §4; 20 in 01)
+  pub unknown-first : outcome listW (written-out [] (start ∷ block ∷ [])) ≡ refused 24 (countAndName 1 (call 5 5))
   -- (10) case 4, star kind 2: 15
   pub star-first :
       outcome listW (record { positionals = whole 1 ∷ whole 2 ∷ []; named = start ∷ []; starKind = 2; items = []; doubleKind = 0; entries = [] })

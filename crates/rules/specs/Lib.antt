@@ -17,8 +17,10 @@ pub mod Board
 pub mod CallQuestions
 pub mod Binding
 pub mod Collection
+pub mod UnknownFirst
 pub mod CanFill
 pub mod Examples
+pub mod OrderExamples
 pub mod Demand3
 pub mod CutExamples
 pub mod Accessors

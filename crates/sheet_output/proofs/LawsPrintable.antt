@@ -236,13 +236,13 @@ module _ (spec call : List ℕ) where
       let named : Answer = askNamedRemainder (hasKwargs qs) (namedRemainder qs N) in
       let repeats : Answer = askRepeats P (c .named) 0 qs in
       let entries : Answer = askEntries qs P (c .named) (entriesOf (c .double)) in
-      then-inside (ask 15 (starPasses (c .star))) (repeats then ask 17 (doublePasses (c .double)) then entries then required then star then named) (ask-inside 15 (starPasses (c .star)))
-      (λ e₁. then-inside repeats (ask 17 (doublePasses (c .double)) then entries then required then star then named) (repeats-inside qs P (c .named) 0 qs (p .parameters))
-      (λ e₂. then-inside (ask 17 (doublePasses (c .double))) (entries then required then star then named) (ask-inside 17 (doublePasses (c .double)))
-      (λ e₃. then-inside entries (required then star then named) (entries-inside qs P (c .named) (entriesOf (c .double)) (all-behind (printableNamed spec call) (c .named) (words (entriesOf (c .double))) (p .named)))
-      (λ e₄. then-inside required (star then named) (required-inside qs (place qs P N) (p .parameters))
-      (λ e₅. then-inside star named (star-inside (hasArgs qs) (starRemainder qs P))
-      (λ e₆. named-inside (hasKwargs qs) (namedRemainder qs N) (all-keep (printableNamed spec call) (λ v. not (known qs (v .name .bytes))) N (p .named))))))))
+      then-inside (ask 15 (starPasses (c .star))) (repeats then ask 17 (doublePasses (c .double)) then entries then named then required then star) (ask-inside 15 (starPasses (c .star)))
+      (λ e₁. then-inside repeats (ask 17 (doublePasses (c .double)) then entries then named then required then star) (repeats-inside qs P (c .named) 0 qs (p .parameters))
+      (λ e₂. then-inside (ask 17 (doublePasses (c .double))) (entries then named then required then star) (ask-inside 17 (doublePasses (c .double)))
+      (λ e₃. then-inside entries (named then required then star) (entries-inside qs P (c .named) (entriesOf (c .double)) (all-behind (printableNamed spec call) (c .named) (words (entriesOf (c .double))) (p .named)))
+      (λ e₄. then-inside named (required then star) (named-inside (hasKwargs qs) (namedRemainder qs N) (all-keep (printableNamed spec call) (λ v. not (known qs (v .name .bytes))) N (p .named)))
+      (λ e₅. then-inside required star (required-inside qs (place qs P N) (p .parameters))
+      (λ e₆. star-inside (hasArgs qs) (starRemainder qs P)))))))
 
   -- 1 to 14, which have no details
   steps-inside : (A : ℕ) (area : List ℕ) (s : Style) (before : List Parameter) (ts : List Step) → answerInside spec call (askSteps A area s before ts) ≡ true

@@ -19,25 +19,25 @@ use Rattle.questions.proofs.questions.judge.Tie as tie
 abbrev listFor : tie.Start → (kinds payloads : List ℕ) → ParametersSpec
 listFor s kinds payloads = lentWith (s .args .codes .now) (s .args .styles .now) (s .args .names .now) (s .args .len) (s .args .indices) kinds payloads
 
-abbrev startOf : tie.After-ask-star → tie.Start
-startOf star = star .before .before .before .before
+abbrev startOf : tie.After-first-of → tie.Start
+startOf first = first .before .before .before .before .before .before .before
 
 -- as many slots as are filled by position are few
 ask-repeats-requires : tie.Need-ask-repeats-requires
 ask-repeats-requires c κs =
-    let start = startOf (c .before) in
+    let start = c .before .before .before .before .before in
     let a = start .args in
     omega (arith, next-few (a .spec .now) (listFor start (start .pre .kinds) (start .pre .payloads)) (a .cells .now) (a .area .now) (headOf (a .h)) (a .next) (callOf (a .cells .now) (a .area .now)) (start .pre .call))
 
 -- what 15 and 16 answer
-asked : (c : tie.After-first-of) → c .first-of .result ≡ firstOf (starAs (headOf (startOf (c .before .before .before) .args .h)) (startOf (c .before .before .before) .args .before)) (repeatsAs (startOf (c .before .before .before) .args .names .now) (startOf (c .before .before .before) .args .next) (startOf (c .before .before .before) .args .sources .now) (startOf (c .before .before .before) .args .before))
+asked : (c : tie.After-first-of) → c .first-of .result ≡ firstOf (starAs (headOf (startOf c .args .h)) (startOf c .args .before)) (repeatsAs (startOf c .args .names .now) (startOf c .args .next) (startOf c .args .sources .now) (startOf c .args .before))
 asked c = c .first-of .ensures ∙ ap₂ firstOf (c .before .before .before .ask-star .ensures) (c .before .ask-repeats .ensures)
 
 returns : tie.Need-returns
 returns c kinds payloads call resolved =
     let refused = c .before in
     let first = refused .before .before in
-    let start = startOf (first .before .before .before) in
+    let start = startOf first in
     let a = start .args in
     let written = asked-written (a .spec .now) (listFor start kinds payloads) (a .cells .now) (a .area .now) (headOf (a .h)) (a .next) (callOf (a .cells .now) (a .area .now)) call (a .sources .now) (a .rest .now) (a .before) resolved (refused .refusal .given .0 .0) (sym (asked first) ∙ refused .refusal .given .1) in
     judged-refused _ _ _ _ _ _ _ (refused .refusal .given .0 .0) (written .0) (written .1)
@@ -46,7 +46,7 @@ returns-2 : tie.Need-returns-2
 returns-2 c kinds payloads call resolved =
     let told = c .before .before .before in
     let first = told .before .before in
-    let start = startOf (first .before .before .before) in
+    let start = startOf first in
     let a = start .args in
     subst (λ asked. Judging (parametersIn (a .spec .now) (listFor start kinds payloads .params)) (callOf (a .cells .now) (a .area .now)) (a .cells .now) (a .area .now) asked (c .after-names .last .1 .1 .1 .1 .1 .1 .1 .1 .1 .1 .0) (c .after-names .last .1 .1 .1 .1 .1 .1 .1 .1 .1 .1 .1 .0) (c .after-names .result))
     (asked-names (a .spec .now) (listFor start kinds payloads) (a .cells .now) (a .area .now) (headOf (a .h)) (a .next) (callOf (a .cells .now) (a .area .now)) call (a .sources .now) (a .rest .now) (a .before) resolved (told .enum-told .given .0 .0) (sym (asked first) ∙ told .enum-told .given .1))
