@@ -7,7 +7,7 @@ ghost use mathlib.Core.Path.{_≡_};
 ghost use lib.ListN.{length};
 
 // Room for the cases.
-const TEXT: usize = 262144;
+const TEXT: usize = 524288;
 
 // Where the bytes of a case stand, and where the line feed behind them does; two zeros end the cases.
 pub struct Case {
@@ -25,7 +25,7 @@ struct Number {
 
 // The `ensures` gives the length, which lending the array as a slice needs.
 pub fn room_for_text() -> [u8; TEXT]
-    ensures { λ r. ⌜ 262144 ≡ length r ⌝ }
+    ensures { λ r. ⌜ 524288 ≡ length r ⌝ }
 {
     [0; TEXT]
 }

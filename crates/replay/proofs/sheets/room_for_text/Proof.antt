@@ -7,7 +7,7 @@ use Rattle.replay.proofs.sheets.room_for_text.Statement.{statement}
 use Rattle.replay.proofs.sheets.room_for_text.Tie as tie
 
 returns : tie.Need-returns
-returns c = sym (length-replicate {A = ℕ} 262144 0)
+returns c = sym (length-replicate {A = ℕ} 524288 0)
 
 pub room-for-text-spec : {M : Type 1} → statement M
 room-for-text-spec = tie.close (tie.spec returns)
