@@ -103,7 +103,8 @@ extern "C" {
 #endif
 
 /*
- * Collects a call into a board. Asks 1 to 24.
+ * Collects a call into a board. Asks 1 to 24, of which 24 comes directly after 19: a name that the function does not take is told before a
+ * parameter that is missing.
  * answer[4..7]: how many slots were filled from the call, how many from defaults, the star remainder's and the named remainder's length.
  */
 uint64_t liuwdom_collect(const uint64_t *spec_cells, size_t spec_cells_len, const uint8_t *spec, size_t spec_len, const uint64_t *call_cells,

@@ -12,7 +12,7 @@ pub enum Shape {
     Shuffled,
     // A quarter each by position, as items of a list, by name, as entries of a dictionary.
     Spread,
-    // All by name, the last one misspelled: a parameter is missing.
+    // All by name, the last one misspelled: the Rust tells that a parameter is missing, ours that the name is unknown.
     Refused,
 }
 

@@ -14,10 +14,11 @@ pub enum Intended {
     SlotsAfterError,
     OneErrorForRepeats,
     AllUnknownNames,
+    MissingBeforeUnknown,
     LenOfText,
 }
 
-pub const INTENDED: [(Intended, &str); 6] = [
+pub const INTENDED: [(Intended, &str); 7] = [
     (
         Intended::AssertOnStep,
         "a step that may not stand there: the Rust panics, ours refuses by 5",
@@ -37,6 +38,10 @@ pub const INTENDED: [(Intended, &str); 6] = [
     (
         Intended::AllUnknownNames,
         "several unknown names: the Rust tells all, ours the count and the first",
+    ),
+    (
+        Intended::MissingBeforeUnknown,
+        "an unknown name beside a missing parameter or surplus values: the Rust tells these, ours the name by 24",
     ),
     (
         Intended::LenOfText,
@@ -212,6 +217,9 @@ impl Judge {
         }
         if aside.slots_written {
             report.meet(Intended::SlotsAfterError, case);
+        }
+        if aside.hid_name {
+            report.meet(Intended::MissingBeforeUnknown, case);
         }
         self.prepared(case, ours, report, &ended);
         let fills = ours.can_fill(spec, call);

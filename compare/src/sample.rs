@@ -1,5 +1,5 @@
 // A fixed list of the oracle's answers, as a section of what the program collect_cases reads. Cases are drawn like the random ones; small ones
-// are taken, and every way to end has its share.
+// are taken, and every way to end in the Rust has its share.
 use crate::case::Case;
 use crate::port::Port;
 use crate::random::Generator;
@@ -93,8 +93,8 @@ pub fn sample(seed: u64, count: u64) -> String {
         }
         theirs.forms = case.forms;
         let mut board = vec![0; case.board_len];
-        let answer = theirs.collect(case.spec(), case.call(), &mut board);
-        if shares.take(answer[0] as usize) {
+        let ended = theirs.published(case.spec(), case.call(), &mut board);
+        if shares.take(ended[0] as usize) {
             writeln!(out, "# {}", shares.taken).unwrap();
             lines(&case, &mut theirs, &mut out);
         }

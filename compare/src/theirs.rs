@@ -1,5 +1,7 @@
 // The oracle behind the same boundary: 01's numbers, details and cells for what the published bodies answer. The Rust's one error for repeated
-// arguments is 16 or 19: the same call without its `**` value ends in that error exactly where 16 is asked first.
+// arguments is 16 or 19: the same call without its `**` value ends in that error exactly where 16 is asked first. `published` is the Rust as it
+// is; `collect` is what is expected of ours, where the two orders of the questions part (order.rs).
+use crate::order::expected;
 use crate::port::answered;
 use crate::port::refused;
 use crate::port::refused_name;
@@ -38,6 +40,8 @@ pub struct Aside {
     pub slots_written: bool,
     // The error named so many unknown names.
     pub names_told: usize,
+    // The error hid an unknown name.
+    pub hid_name: bool,
 }
 
 pub struct Theirs {
@@ -245,39 +249,10 @@ fn written(told: Result<u64, Told>, cells: &[u64], out: &mut [u64]) -> Answer {
 
 impl Port for Theirs {
     fn collect(&mut self, spec: Record, call: Record, board: &mut [u64]) -> Answer {
-        self.aside = Aside::default();
-        self.store.clear();
-        let heap = self.store.heap();
-        let list = match build(heap, spec) {
-            Ok(list) => list,
-            Err(number) => {
-                self.aside.panicked = true;
-                return refused(number);
-            }
-        };
-        let given = read_call(heap, call.cells, call.area, self.forms);
-        let mut slots = vec![None; list.spec.len()];
-        match collected(heap, spec, &list, &given, &mut slots) {
-            Ok(()) => {
-                self.cells.clear();
-                push_board(&list, &slots, &mut self.cells);
-                put(&self.cells, board);
-                counts(&list, &slots)
-            }
-            Err(told) => {
-                self.aside.slots_written = slots.iter().any(|s| s.is_some());
-                if let Told::ExtraNamedArg(names) = &told {
-                    self.aside.names_told = names.len();
-                }
-                let ending = Ending {
-                    spec,
-                    call,
-                    list: &list,
-                    slots: &slots,
-                };
-                ending.refusal(told, || repeated_without_double(heap, spec, &list, &given))
-            }
-        }
+        let ended = self.published(spec, call, board);
+        let answer = expected(spec, call, ended);
+        self.aside.hid_name = answer != ended;
+        answer
     }
 
     fn can_fill(&mut self, spec: Record, call: Record) -> Answer {
@@ -412,6 +387,43 @@ impl Port for Theirs {
 }
 
 impl Theirs {
+    // How the Rust ends a collection, in 01's numbers.
+    pub fn published(&mut self, spec: Record, call: Record, board: &mut [u64]) -> Answer {
+        self.aside = Aside::default();
+        self.store.clear();
+        let heap = self.store.heap();
+        let list = match build(heap, spec) {
+            Ok(list) => list,
+            Err(number) => {
+                self.aside.panicked = true;
+                return refused(number);
+            }
+        };
+        let given = read_call(heap, call.cells, call.area, self.forms);
+        let mut slots = vec![None; list.spec.len()];
+        match collected(heap, spec, &list, &given, &mut slots) {
+            Ok(()) => {
+                self.cells.clear();
+                push_board(&list, &slots, &mut self.cells);
+                put(&self.cells, board);
+                counts(&list, &slots)
+            }
+            Err(told) => {
+                self.aside.slots_written = slots.iter().any(|s| s.is_some());
+                if let Told::ExtraNamedArg(names) = &told {
+                    self.aside.names_told = names.len();
+                }
+                let ending = Ending {
+                    spec,
+                    call,
+                    list: &list,
+                    slots: &slots,
+                };
+                ending.refusal(told, || repeated_without_double(heap, spec, &list, &given))
+            }
+        }
+    }
+
     // One read of a parser over the slots from `at` on: its answer, and whether it says that it is at the end.
     fn read(&mut self, slots: &[u64], at: usize, read: Read) -> (Answer, bool) {
         self.store.clear();

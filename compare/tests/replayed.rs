@@ -173,17 +173,21 @@ fn sample_is_the_one_replayed() {
     );
 }
 
-// The sample is read back, ends as it says, and has every ending.
+// The sample is read back, ends as it says, and has every ending of the Rust; so has what is expected of ours.
 #[test]
 fn sample_is_read_back() {
     quiet_asserts();
     let mut theirs = Theirs::default();
-    let mut ended = [0; 32];
+    let mut board = [0; 1000];
+    let (mut ended, mut told) = ([0; 32], [0; 32]);
     for c in all_collections(&sample(3, 300)) {
         check(&c, &mut theirs).unwrap_or_else(|words| panic!("{words}"));
-        ended[c.expected.answer[0] as usize] += 1;
+        let published = theirs.published(c.case.spec(), c.case.call(), &mut board);
+        ended[published[0] as usize] += 1;
+        told[c.expected.answer[0] as usize] += 1;
     }
     for number in [0, 13, 15, 16, 17, 18, 19, 20, 21, 22, 23, 24] {
         assert!(10 <= ended[number], "{number} ends {} cases", ended[number]);
+        assert!(0 < told[number], "{number} is expected of no case");
     }
 }

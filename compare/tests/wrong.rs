@@ -3,11 +3,11 @@
 use compare::judge::Intended;
 use compare::judge::Judge;
 use compare::judge::Report;
-use compare::port::refused_name;
+use compare::order::expected;
+use compare::port::refused;
 use compare::port::Answer;
 use compare::port::Port;
 use compare::port::Record;
-use compare::port::CALL_AREA;
 use compare::random::compare_random;
 use compare::small::compare_small;
 use compare::theirs::quiet_asserts;
@@ -19,7 +19,8 @@ const CASES: u64 = 3_000;
 enum Fault {
     None,
     DropsDefaults,
-    UnknownBeforeMissing,
+    MissingBeforeUnknown,
+    UnknownBeforeEntries,
     IgnoresStar,
     TakenOneMore,
     NamedRemainderFirst,
@@ -41,9 +42,10 @@ enum Fault {
     NeverAtEnd,
 }
 
-const FAULTS: [Fault; 21] = [
+const FAULTS: [Fault; 22] = [
     Fault::DropsDefaults,
-    Fault::UnknownBeforeMissing,
+    Fault::MissingBeforeUnknown,
+    Fault::UnknownBeforeEntries,
     Fault::IgnoresStar,
     Fault::TakenOneMore,
     Fault::NamedRemainderFirst,
@@ -80,12 +82,6 @@ fn wrong(fault: Fault) -> Wrong {
 fn parameters<'a>(spec: Record<'a>) -> impl Iterator<Item = &'a [u64]> {
     let steps = spec.cells[1..].chunks_exact(4);
     steps.filter(|s| s[0] != 4 && s[0] != 5)
-}
-
-fn names(call: Record) -> Vec<u64> {
-    let from = 6 + 2 * call.cells[0] as usize;
-    let pairs = call.cells[from..].chunks_exact(4);
-    pairs.take(call.cells[1] as usize).map(|c| c[1]).collect()
 }
 
 fn text(area: &[u8], payload: u64) -> &[u8] {
@@ -128,20 +124,16 @@ impl Wrong {
         }
     }
 
-    fn refused(&mut self, spec: Record, call: Record, answer: &mut Answer, board: &mut [u64]) {
+    fn refused(&self, spec: Record, call: Record, answer: &mut Answer, board: &mut [u64]) {
         match self.fault {
             Fault::WritesOnRefusal => board[0] ^= 1,
             Fault::NameOneShort if answer[1] != 0 => answer[3] = answer[3].saturating_sub(1),
             Fault::NineteenForSixteen if answer[0] == 16 => answer[0] = 19,
-            Fault::UnknownBeforeMissing if (20..=22).contains(&answer[0]) => {
-                if parameters(spec).any(|p| p[0] == 7) {
-                    return;
-                }
-                for name in names(call) {
-                    if self.right.lookup(spec, text(call.area, name))[4] == 0 {
-                        *answer = refused_name(24, CALL_AREA, name, 1);
-                        return;
-                    }
+            // As if 20 had ended it: then an unknown name comes first.
+            Fault::UnknownBeforeEntries if matches!(answer[0], 18 | 19) => {
+                let told = expected(spec, call, refused(20));
+                if told[0] == 24 {
+                    *answer = told;
                 }
             }
             _ => {}
@@ -163,7 +155,10 @@ impl Port for Wrong {
                 board,
             );
         }
-        let mut answer = self.right.collect(spec, call, board);
+        let mut answer = match self.fault {
+            Fault::MissingBeforeUnknown => self.right.published(spec, call, board),
+            _ => self.right.collect(spec, call, board),
+        };
         match answer[0] {
             0 => self.accepted(spec, &mut answer, board),
             _ => self.refused(spec, call, &mut answer, board),
@@ -291,7 +286,9 @@ fn right_one_shows_no_difference() {
     quiet_asserts();
     let report = differences(Fault::None);
     assert_eq!(report.differences, 0);
-    assert!(0 < report.met[Intended::LenOfText as usize].count);
+    for met in [Intended::LenOfText, Intended::MissingBeforeUnknown] {
+        assert!(0 < report.met[met as usize].count, "{met:?} was not met");
+    }
     for number in [0, 5, 7, 13, 15, 16, 17, 18, 19, 20, 21, 22, 23, 24] {
         assert!(0 < report.ended[number], "no case ended in {number}");
     }

@@ -84,6 +84,17 @@ fn slot(pair: Pair, areas: Areas) -> Slot {
 /// assert_eq!(refused.number(), 21);
 /// assert_eq!(refused.to_string(), "`start`: missing");
 /// ```
+///
+/// A name that the function does not take is told before a parameter that is missing:
+///
+/// ```
+/// use liuwdom::{collect, Call, Signature};
+///
+/// let water = Signature::new("water").required("block").slash().required("start");
+/// let refused = collect(&water, &Call::new().positional("B3").named("strat", 400)).unwrap_err();
+/// assert_eq!(refused.number(), 24);
+/// assert_eq!(refused.to_string(), "`strat`: no name that the function takes, the first of 1");
+/// ```
 pub fn collect(signature: &Signature, call: &Call) -> Result<Bound, Refusal> {
     let spec = signature.record();
     let given = call.record();

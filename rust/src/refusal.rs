@@ -52,7 +52,7 @@ pub enum Refusal {
     MissingNamedOnly { name: Vec<u8> },
     /// 23: so many positionals are left over.
     ExtraPositionalArg { count: usize },
-    /// 24: so many names are left over, and the first of them.
+    /// 24: so many names are left over, and the first of them. Asked before 20 to 23, since such a name may be a missing one misspelled.
     ExtraNamedArg { count: usize, first: Vec<u8> },
     /// 25: more than 64 positionals are asked for.
     TooManyAskedFor,

@@ -112,11 +112,35 @@ fn example_8_positional_only_by_name() {
 #[test]
 fn example_9_positional_only_by_name_alone() {
     let call = Call::new().named("start", 400).named("block", "B3");
+    let first = name("block");
+    refused(&call, Refusal::ExtraNamedArg { count: 1, first });
+}
+
+// Somebody types strat=: that is told, and neither that start is missing nor that a value is left over. A repeat comes before it, and under
+// **kwargs the name is none that is unknown.
+#[test]
+fn an_unknown_name_is_told_before_what_is_missing() {
+    let told = || Refusal::ExtraNamedArg {
+        count: 1,
+        first: name("strat"),
+    };
+    refused(&block().named("strat", 400), told());
+    let values = ["B3", "400", "45", "B4"];
+    let four = values.iter().fold(Call::new(), |c, v| c.positional(*v));
+    refused(&four.named("strat", 400), told());
+    let twice = start_twice().named("strat", 400);
     refused(
-        &call,
-        Refusal::MissingPositionalOnly {
-            name: name("block"),
+        &twice,
+        Refusal::RepeatedParameter {
+            name: name("start"),
         },
+    );
+    let missing = collect(&k(), &block().named("strat", 400)).unwrap_err();
+    assert_eq!(
+        missing,
+        Refusal::Missing {
+            name: name("start")
+        }
     );
 }
 
@@ -228,7 +252,7 @@ fn accessors_look_at_the_call_alone() {
 #[test]
 fn sheets_and_their_records_end_alike() {
     let folder = concat!(env!("CARGO_MANIFEST_DIR"), "/../examples/");
-    for file in ["water", "stars", "repeated"] {
+    for file in ["water", "stars", "repeated", "unknown"] {
         let input = std::fs::read(format!("{folder}{file}.sheet")).unwrap();
         let (signature, call) = sheet::read(&input).unwrap();
         let ended = collect(&signature, &call);
