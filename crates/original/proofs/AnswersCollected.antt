@@ -3,7 +3,8 @@
 use mathlib.Core.Path.{refl}
 use Rattle.rules.specs.Text.{payloadOf}
 use Rattle.rules.specs.Examples.{listW, listK, noParameters, stepsW, specBytes, callBytes}
-use Rattle.original.specs.Examples.{RustExamples, rustEnds, listNamed, listArgs, listTwo, listSlashes}
+use Rattle.rules.specs.OrderExamples.{listNamed}
+use Rattle.original.specs.Examples.{RustExamples, rustEnds, listArgs, listTwo, listSlashes}
 
 pub rust-examples : RustExamples
 unfolding rustEnds listW listK noParameters stepsW specBytes callBytes payloadOf listNamed listArgs listTwo listSlashes

@@ -1,16 +1,17 @@
 -- Where the Rust hides an unknown name: its end does so exactly where the outcome of 01's own order does that it is.
 -- Assumes nothing.
-use mathlib.Core.Path.{_≡_, refl, sym, ap, subst, _∙_}
+use mathlib.Core.Path.{_≡_, refl, sym, ap, subst}
 use mathlib.Core.Bool.{Bool, true, false, cond, not, _&&_, _||_, false≢true}
 use mathlib.Core.List.{List, map}
 use mathlib.Core.Option.{Option, none, some}
 use Prim.Native.Nat.{ℕ}
 use borrow.Author.Tests.{eqb-true}
-use lib.Dec.{leb, eqb}
+use lib.Dec.{eqb}
 use Rattle.rules.specs.Answer.{Detail, name, count, countAndName, bounds, none as noDetail, Part}
 use Rattle.rules.specs.CallRecord.{Named}
 use Rattle.rules.specs.Collection.{Outcome, refused, accepted}
 use Rattle.rules.specs.UnknownFirst.{someName, missingOrSurplus}
+use Rattle.rules.proofs.LawsListing.{and-no-right}
 use Rattle.rules.proofs.LawsNumbers.{numberIn}
 use Rattle.original.specs.Spec.{isSome}
 use Rattle.original.specs.Locals.{FunctionError, ArgsArrayIsNotIterable, RepeatedArg, KwArgsIsNotDict, ArgsValueIsNotString, MissingPositionalOnly, MissingNamedOnly, Missing, ExtraPositionalArg, ExtraNamedArg, ok, err}
@@ -87,17 +88,13 @@ module _ (read : Part → List ℕ) (extra : List Named) (n : ℕ) where
 
 -- ---- an end
 
-pub off : (a b : Bool) → false ≡ (a && b && false)
-off true true = refl
-off true false = refl
-off false b = refl
-
 pub hides-same : (read : Part → List ℕ) (extra : List Named) (board : List ℕ) (kwargs : Bool) (theirs : End) (o : Outcome) → SameEnd read extra board theirs o
     → rustHides kwargs extra theirs ≡ (not kwargs && someName extra && missingOrSurplus o)
 hides-same read extra board kwargs panics o s = absurd s
-hides-same read extra board kwargs (writtenTwice bytes) (refused n d) s = rw (s .0) (off (not kwargs) (someName extra))
+hides-same read extra board kwargs (writtenTwice bytes) (refused n d) s =
+    rw (s .0) (sym (and-no-right (not kwargs && someName extra) false refl))
 hides-same read extra board kwargs (writtenTwice bytes) (accepted counts after) s = absurd s
 hides-same read extra board kwargs (collects (err e)) (refused n d) s = ap (λ b. not kwargs && someName extra && b) (error-number read extra n d e s)
 hides-same read extra board kwargs (collects (err e)) (accepted counts after) s = absurd s
 hides-same read extra board kwargs (collects (ok slots)) (refused n d) s = absurd s
-hides-same read extra board kwargs (collects (ok slots)) (accepted counts after) s = off (not kwargs) (someName extra)
+hides-same read extra board kwargs (collects (ok slots)) (accepted counts after) s = sym (and-no-right (not kwargs && someName extra) false refl)

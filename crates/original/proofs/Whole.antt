@@ -17,7 +17,7 @@ use Rattle.rules.specs.ParameterQuestions.{askParameters, listOf}
 use Rattle.rules.specs.CallQuestions.{askForm, askCall, namesDiffer, askBoard}
 use Rattle.rules.specs.CanFill.{answered, fillable}
 use Rattle.rules.specs.Collection.{Outcome, refused, outcomeOf, callOf, askRecords, collection}
-use Rattle.rules.proofs.LawsListing.{map-map}
+use Rattle.rules.proofs.LawsListing.{and-no-right, map-map}
 use Rattle.rules.proofs.LawsUnknownFirst.{unknown-first}
 use Rattle.original.specs.Spec.{isSome, ParametersSpec, specOf}
 use Rattle.original.specs.Builder.{next, finishedOf}
@@ -36,7 +36,7 @@ use Rattle.original.proofs.BuiltFills.{same-fill}
 use Rattle.original.proofs.BuiltCollects.{collect-built}
 use Rattle.original.proofs.LawsBuilt.{list-oneArgs, list-oneKwargs}
 use Rattle.original.proofs.LawsBoard.{placed-fine, board-same}
-use Rattle.original.proofs.LawsHidden.{off, hides-same}
+use Rattle.original.proofs.LawsHidden.{hides-same}
 
 -- ---- what an end is by its parts
 
@@ -156,7 +156,7 @@ module _ (specCells specBytes callCells callBytes board : List ℕ) where
     -- and what tells unknown names is no end of the Rust that hides them
     not-hidden : Tells extra ours → Same theirs ours → rustHides kwargs extra theirs ≡ false
     not-hidden t s =
-        hides-same read extra board kwargs theirs ours s ∙ ap (λ (b : Bool). not kwargs && someName extra && b) (told-24 extra ours t) ∙ sym (off (not kwargs) (someName extra))
+        hides-same read extra board kwargs theirs ours s ∙ and-no-right (not kwargs && someName extra) (missingOrSurplus ours) (told-24 extra ours t)
 
     -- ---- the two theorems
 

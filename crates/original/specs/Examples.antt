@@ -12,6 +12,7 @@ use Rattle.rules.specs.CallRecord.{CallRecord, Call, noStar, noDouble, pairWidt
 use Rattle.rules.specs.Parameters.{optional}
 use Rattle.rules.specs.Collection.{callOf}
 use Rattle.rules.specs.Examples.{specBytes, callBytes, step, listW, listK, noParameters, whole, start, block, written-out}
+use Rattle.rules.specs.OrderExamples.{listNamed}
 use Rattle.original.specs.Spec.{ParametersSpec}
 use Rattle.original.specs.Builder.{toU32, withCapacity, takeStep, built}
 use Rattle.original.specs.CheckUnique.{newCheckUnique, writtenNames}
@@ -43,11 +44,7 @@ startBytes = 115 ∷ 116 ∷ 97 ∷ 114 ∷ 116 ∷ []
 abbrev pub holding : ℕ → Option Held
 holding n = some (single (whole n))
 
--- `*, block`, and `*args`
-unfoldable pub listNamed : ParameterRecord
-unfolding payloadOf
-listNamed = record { function = payloadOf 0 5; steps = step 5 0 0 0 ∷ step 1 (payloadOf 5 5) 0 0 ∷ [] }
-
+-- `*args`
 unfoldable pub listArgs : ParameterRecord
 unfolding payloadOf
 listArgs = record { function = payloadOf 0 5; steps = step 6 0 0 0 ∷ [] }

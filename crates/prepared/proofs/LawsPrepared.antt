@@ -14,7 +14,7 @@ use Rattle.rules.specs.Cells.{readEach, writeEach, over}
 use Rattle.rules.specs.Listing.{all}
 use Rattle.rules.specs.Text.{bytesAt, textIn, isText}
 use Rattle.rules.specs.Value.{Value, noValue, readValue}
-use Rattle.rules.specs.Answer.{Answer, fine, refuse, _then_, ask}
+use Rattle.rules.specs.Answer.{Answer, fine, _then_, ask}
 use Rattle.rules.specs.ParameterRecord.{Step, readParameters}
 use Rattle.rules.specs.Parameters.{Style, posOnly, posOrNamed, namedOnly, noMore, ParameterKind, required, optional, defaulted, args, kwargs, Act, adds, slash, bareStar, unknownCode, actOf, act, comesBefore, mayStand, nextStyle, rank, Parameter, added, addedFrom, parametersOf}
 use Rattle.rules.specs.ParameterQuestions.{stepName, namesInside, isZero, usesRight, defaultsRight, hasRoom, nameIsNew, askStep, askSteps, listOf, askParameters}

@@ -2,7 +2,7 @@
 -- of calls with a name that can't be placed.
 -- Assumes nothing.
 use mathlib.Core.Path.{_≡_, refl, sym, ap, _∙_}
-use mathlib.Core.Bool.{Bool, true, false, cond, not, _&&_, _||_, false≢true, true≢false}
+use mathlib.Core.Bool.{Bool, true, false, cond, not, _&&_, true≢false}
 use mathlib.Core.List.{List, [], _∷_, map}
 use Prim.Native.Nat.{ℕ, suc, _≤_}
 use native.Mathlib.Nat.{suc-inj}
@@ -10,7 +10,7 @@ use native.Mathlib.Omega.{arith}
 use borrow.Author.Tests.{le-leb, leb-true, ne-eqb}
 use lib.Dec.{leb, eqb}
 use lib.ListN.{length, length-map}
-use Rattle.rules.specs.Listing.{any, keep, mapFrom}
+use Rattle.rules.specs.Listing.{any, mapFrom}
 use Rattle.rules.specs.Value.{Value}
 use Rattle.rules.specs.Answer.{Answer, fine, refuse, _then_, Detail, none, name, countAndName, partOf, specArea, callArea}
 use Rattle.rules.specs.ParameterRecord.{encodeParameters}
@@ -29,7 +29,7 @@ use Rattle.rules.specs.Demand3.{Cut, cutRecord, wholeRecord, merge, isAc
 use Rattle.rules.specs.Examples.{specBytes, boardBefore}
 use Rattle.rules.specs.CutExamples.{callBytes, listL, crop, vine, two-values}
 use Rattle.rules.proofs.Computed.{cut-examples}
-use Rattle.rules.proofs.LawsListing.{and-left, map-map}
+use Rattle.rules.proofs.LawsListing.{and-left, keep-some, map-map}
 use Rattle.rules.proofs.LawsRecord.{readCall-encodeCall}
 use Rattle.rules.proofs.LawsAnswer.{isFine, then-left, then-right, fine-refuse}
 use Rattle.rules.proofs.LawsNumbers.{refusesIn, placed-in}
@@ -215,21 +215,12 @@ module _ (A B : ℕ) (specCells specBytes callBytes : List ℕ) (P : List Value)
   unfolding askPlaced
   placed-unknown v vs without is = rw (without, is)
 
-  -- where a name can't be placed, the remainder has one
-  kept-some : (test : Named → Bool) (vs : List Named) → any test vs ≡ true → keep test vs ≡ [] → ⊥
-  kept-some test [] e f = false≢true e
-  kept-some test (v ∷ vs) e f = go (test v) e f (kept-some test vs)
-    where
-      go : (b : Bool) → (b || any test vs) ≡ true → cond b (v ∷ keep test vs) (keep test vs) ≡ [] → (any test vs ≡ true → keep test vs ≡ [] → ⊥) → ⊥
-      go true p q ih = let z : suc (length (keep test vs)) ≡ 0 = ap length q in omega arith
-      go false p q ih = ih p q
-
   pub every-cut-told : Unplaceable A B specCells specBytes callBytes P N board → EveryCutTold A B specCells specBytes callBytes P N board
   unfolding namedRemainder repeats
   every-cut-told u c = go (namedRemainder qs named) refl
     where
       go : (vs : List Named) → namedRemainder qs named ≡ vs → Tells vs (ending c)
-      go [] is = kept-some (λ v. not (known qs (v .name .bytes))) named (u .unplaceable) is
+      go [] is = keep-some (λ v. not (known qs (v .name .bytes))) named (u .unplaceable) is
       go (v ∷ vs) is = ending-is c ∙ ap (λ a. outcomeOf a qs P named board) (by (askBinding qs (callOf (cells c) callBytes)) (ended c))
         where
           by : (a : Answer) → Ended (repeats qs P named) a (askPlaced qs P named) → a ≡ refuse 24 (countAndName (length (v ∷ vs)) (partOf callArea (v .name)))

@@ -119,6 +119,14 @@ module _ {X : Type 0} (f : X → Bool) where
   all-imp g h (x ∷ xs) e = and-both (g x) (all g xs) (h x (and-left (f x) (all f xs) e)) (all-imp g h xs (and-right (f x) (all f xs) e))
 
   -- nothing is kept exactly where nothing passes
+  pub keep-some : (xs : List X) → any f xs ≡ true → keep f xs ≡ [] → ⊥
+  keep-some [] e none = false≢true e
+  keep-some (x ∷ xs) e none = go (f x) e none (keep-some xs)
+    where
+      go : (b : Bool) → (b || any f xs) ≡ true → cond b (x ∷ keep f xs) (keep f xs) ≡ [] → (any f xs ≡ true → keep f xs ≡ [] → ⊥) → ⊥
+      go true p q ih = let z : suc (length (keep f xs)) ≡ 0 = ap length q in omega arith
+      go false p q ih = ih p q
+
   pub keep-all : (xs : List X) → all f xs ≡ true → keep (λ x. not (f x)) xs ≡ []
   keep-all [] e = refl
   keep-all (x ∷ xs) e = go (f x) (and-left (f x) (all f xs) e) (keep-all xs (and-right (f x) (all f xs) e))

@@ -1,26 +1,25 @@
 -- That 24 is asked directly after the entries changes the outcomes that hid an unknown name, and no other (specs/UnknownFirst). First of 20 to
 -- 24 by themselves, then with all that comes before them.
 -- Assumes nothing.
-use mathlib.Core.Path.{_≡_, refl, sym, ap, ap₂, subst, _∙_}
+use mathlib.Core.Path.{_≡_, refl, sym, ap, _∙_}
 use mathlib.Core.Bool.{Bool, true, false, not, _&&_, true≢false}
 use mathlib.Core.List.{List, [], _∷_}
-use Prim.Native.Nat.{ℕ, _≤_}
+use Prim.Native.Nat.{ℕ}
 use native.Mathlib.Omega.{arith}
 use borrow.Author.Tests.{leb-true, lt-leb}
 use lib.Dec.{leb}
-use lib.ListN.{length}
 use Rattle.rules.specs.Value.{Value}
-use Rattle.rules.specs.Answer.{Answer, fine, refuse, _then_, countAndName, Detail, partOf, callArea}
+use Rattle.rules.specs.Answer.{Answer, fine, refuse, _then_}
 use Rattle.rules.specs.CallRecord.{Call, Named, positionalsOf, namedOf}
 use Rattle.rules.specs.Parameters.{Parameter, hasArgs, hasKwargs}
 use Rattle.rules.specs.ParameterQuestions.{askParameters, listOf}
 use Rattle.rules.specs.Placement.{place, starRemainder, namedRemainder}
 use Rattle.rules.specs.CallQuestions.{askCall, askBoard}
 use Rattle.rules.specs.Binding.{askGiven, askRequired, askStarRemainder, askNamedRemainder, askPlaced, askBinding}
-use Rattle.rules.specs.Collection.{Outcome, refused, accepted, outcomeOf, callOf, askRecords, collection}
+use Rattle.rules.specs.Collection.{Outcome, refused, outcomeOf, callOf, askRecords, collection}
 use Rattle.rules.specs.UnknownFirst.{placedMissingFirst, bindingMissingFirst, collectionMissingFirst, someName, missingOrSurplus, Tells, UnknownFirst}
-use Rattle.rules.proofs.LawsListing.{and-left, and-right}
-use Rattle.rules.proofs.LawsAnswer.{fine-refuse, then-left, then-right, then-last, then-assoc, given-then}
+use Rattle.rules.proofs.LawsListing.{and-right, and-no-left, and-no-right}
+use Rattle.rules.proofs.LawsAnswer.{then-left, then-right, then-last, then-assoc, given-then}
 use Rattle.rules.proofs.LawsNumbers.{refusesIn, numberIn, then-by, wider-in, parameters-in, call-in, board-in, given-in, late-in}
 
 -- ---- 20 to 24
@@ -43,54 +42,44 @@ missing-first-fine qs c e =
       then-left unknown (required then surplus) placed,
     )
 
--- the two orders of 20 to 24, where `late` is 20 to 23
-record Reordered (kwargs : Bool) (unknown : List Named) (now before : Outcome) : Type 0 where
-  differs : (not kwargs && someName unknown && missingOrSurplus before) ≡ true → now ≡ before → ⊥
-  told : (not kwargs && someName unknown && missingOrSurplus before) ≡ true → Tells unknown now
-  stays : (not kwargs && someName unknown && missingOrSurplus before) ≡ false → now ≡ before
+-- what 01's order hides, and how an outcome of the new order stands to one of it
+abbrev hid : Bool → List Named → Outcome → Bool
+hid kwargs unknown before = not kwargs && someName unknown && missingOrSurplus before
+
+record Reordered (hidden : Bool) (unknown : List Named) (now before : Outcome) : Type 0 where
+  differs : hidden ≡ true → now ≡ before → ⊥
+  told : hidden ≡ true → Tells unknown now
+  stays : hidden ≡ false → now ≡ before
+
+-- where nothing is hidden the two are one
+one-end : (hidden : Bool) (unknown : List Named) (now before : Outcome) → hidden ≡ false → now ≡ before → Reordered hidden unknown now before
+one-end hidden unknown now before off e =
+    record { differs = λ h. absurd (true≢false (sym h ∙ off)); told = λ h. absurd (true≢false (sym h ∙ off)); stays = λ h. e }
 
 module _ (qs : List Parameter) (P : List Value) (N : List Named) (board : List ℕ) where
   abbrev ends : Answer → Outcome
   ends a = outcomeOf a qs P N board
 
-  -- where 24 refuses nothing the two are one
-  same : (kwargs : Bool) (unknown : List Named) (late : Answer) → (not kwargs && someName unknown) ≡ false → Reordered kwargs unknown (ends late) (ends (late then fine))
-  same kwargs unknown late e =
-      record {
-        differs = λ h. absurd (true≢false (sym h ∙ ap (λ b. b && missingOrSurplus (ends (late then fine))) e));
-        told = λ h. absurd (true≢false (sym h ∙ ap (λ b. b && missingOrSurplus (ends (late then fine))) e));
-        stays = λ h. ap ends (sym (then-last late));
-      }
-
+  -- 24 before and behind `late`, which is 20 to 23
   reordered : (kwargs : Bool) (unknown : List Named) (late : Answer) → refusesIn 20 23 late ≡ true
-      → Reordered kwargs unknown (ends (askNamedRemainder kwargs unknown then late)) (ends (late then askNamedRemainder kwargs unknown))
-  reordered true unknown late e = same true unknown late refl
-  reordered false [] late e = same false [] late refl
-  reordered false (v ∷ vs) fine e = record { differs = λ h. absurd (true≢false (sym h)); told = λ h. refl; stays = λ h. refl }
+      → Reordered (hid kwargs unknown (ends (late then askNamedRemainder kwargs unknown))) unknown (ends (askNamedRemainder kwargs unknown then late)) (ends (late then askNamedRemainder kwargs unknown))
+  reordered true unknown late e = one-end false unknown (ends late) (ends (late then fine)) refl (ap ends (sym (then-last late)))
+  reordered false [] late e = one-end false [] (ends late) (ends (late then fine)) refl (ap ends (sym (then-last late)))
+  reordered false (v ∷ vs) fine e = one-end false (v ∷ vs) _ _ refl refl
   reordered false (v ∷ vs) (refuse n d) e =
       record {
-        differs = λ h same-end. let number : 24 ≡ n = cc in omega (arith, leb-true n 23 (and-right (leb 20 n) (leb n 23) e));
+        differs = λ h same. let number : 24 ≡ n = cc in omega (arith, leb-true n 23 (and-right (leb 20 n) (leb n 23) e));
         told = λ h. refl;
         stays = λ h. absurd (true≢false (sym e ∙ h));
       }
 
-  -- a refusal of 1 to 19 is the end in both orders
-  earlier : (kwargs : Bool) (unknown : List Named) (n : ℕ) (d : Detail) → n ≤ 19 → Reordered kwargs unknown (refused n d) (refused n d)
-  earlier kwargs unknown n d h =
-      record { differs = λ e. absurd (true≢false (sym e ∙ none)); told = λ e. absurd (true≢false (sym e ∙ none)); stays = λ e. refl }
-    where
-      none : (not kwargs && someName unknown && (leb 20 n && leb n 23)) ≡ false
-      none = rw (lt-leb 20 n (omega arith)) (off (not kwargs) (someName unknown))
-        where
-          off : (a b : Bool) → (a && b && false) ≡ false
-          off true true = refl
-          off true false = refl
-          off false b = refl
-
+  -- the same behind 1 to 19, whose refusal is the end in both orders
   behind : (kwargs : Bool) (unknown : List Named) (first late : Answer) → refusesIn 1 19 first ≡ true → refusesIn 20 23 late ≡ true
-      → Reordered kwargs unknown (ends (first then askNamedRemainder kwargs unknown then late)) (ends (first then late then askNamedRemainder kwargs unknown))
+      → Reordered (hid kwargs unknown (ends (first then late then askNamedRemainder kwargs unknown))) unknown (ends (first then askNamedRemainder kwargs unknown then late)) (ends (first then late then askNamedRemainder kwargs unknown))
   behind kwargs unknown fine late h e = reordered kwargs unknown late e
-  behind kwargs unknown (refuse n d) late h e = earlier kwargs unknown n d (leb-true n 19 (and-right (leb 1 n) (leb n 19) h))
+  behind kwargs unknown (refuse n d) late h e =
+      one-end (hid kwargs unknown (refused n d)) unknown (refused n d) (refused n d)
+      (and-no-right (not kwargs && someName unknown) (leb 20 n && leb n 23) (and-no-left (leb 20 n) (leb n 23) (lt-leb 20 n (omega (arith, leb-true n 19 (and-right (leb 1 n) (leb n 19) h)))))) refl
 
 -- ---- 1 to 24
 
@@ -140,8 +129,11 @@ module _ (A B : ℕ) (specCells specBytes callCells callBytes board : List ℕ) 
       (taken-apart (askRequired qs (place qs (positionalsOf c) (namedOf c)) then askStarRemainder (hasArgs qs) (starRemainder qs (positionalsOf c)) then unknown)
       ∙ ap (λ a. first then a) (then-assoc (askRequired qs (place qs (positionalsOf c) (namedOf c))) (askStarRemainder (hasArgs qs) (starRemainder qs (positionalsOf c))) unknown))
 
+  both-orders
+      : Reordered (hid (hasKwargs qs) (namedRemainder qs (namedOf c)) (collectionMissingFirst A B specCells specBytes callCells callBytes board)) (namedRemainder qs (namedOf c))
+      (collection A B specCells specBytes callCells callBytes board) (collectionMissingFirst A B specCells specBytes callCells callBytes board)
+  both-orders =
+      rw (now-is, before-is) (behind qs (positionalsOf c) (namedOf c) board (hasKwargs qs) (namedRemainder qs (namedOf c)) first late first-in (late-in qs (positionalsOf c) (namedOf c)))
+
   pub unknown-first : UnknownFirst A B specCells specBytes callCells callBytes board
-  unknown-first =
-      let r : Reordered (hasKwargs qs) (namedRemainder qs (namedOf c)) (collection A B specCells specBytes callCells callBytes board) (collectionMissingFirst A B specCells specBytes callCells callBytes board) =
-      rw (now-is, before-is) (behind qs (positionalsOf c) (namedOf c) board (hasKwargs qs) (namedRemainder qs (namedOf c)) first late first-in (late-in qs (positionalsOf c) (namedOf c))) in
-      record { differs = r .differs; told = r .told; stays = r .stays }
+  unknown-first = record { differs = both-orders .differs; told = both-orders .told; stays = both-orders .stays }
