@@ -12,7 +12,7 @@ use cells::text::same;
 pub const CAPACITY: usize = 64;
 
 // How a parameter that is added now can be filled.
-#[derive(Drop)]
+#[derive(Clone, Copy)]
 pub enum CurrentParameterStyle {
     // By position only.
     PosOnly,
@@ -37,7 +37,7 @@ pub struct Step {
 // its style (0, 1 or 2), its name's payload, and the two cells of its default. What `build` promises of a list (`Building`) are the parameters
 // that the columns spell. That leaves open the code of **kwargs, for which every number but 1, 2, 3 and 6 would do, the default's cells of every
 // other code than 3, and all cells from `len` on: nothing that reads the columns tells these apart.
-#[derive(Drop)]
+#[derive(Clone, Copy)]
 pub struct Parameters {
     pub codes: [u8; CAPACITY],
     pub styles: [u8; CAPACITY],

@@ -11,7 +11,7 @@ use crate::params::{CAPACITY, CurrentParameterStyle, Parameters, Step, name_is_n
 use cells::answer::Answer;
 
 // A parameter's index, where there is such a parameter.
-#[derive(Drop)]
+#[derive(Clone, Copy)]
 pub enum Index {
     At(usize),
     Absent,
@@ -43,7 +43,7 @@ pub struct Stepped {
     pub builder: ParametersSpecBuilder,
 }
 
-#[derive(Drop)]
+#[derive(Clone, Copy)]
 pub struct DefParamIndices {
     pub num_positional_only: usize,
     pub num_positional: usize,
@@ -52,7 +52,7 @@ pub struct DefParamIndices {
 }
 
 // A finished list.
-#[derive(Drop)]
+#[derive(Clone, Copy)]
 pub struct ParametersSpec {
     pub params: Parameters,
     pub indices: DefParamIndices,

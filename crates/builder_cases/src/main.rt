@@ -39,7 +39,7 @@ const ARGS: u64 = 6;
 const KWARGS: u64 = 7;
 
 // A parameter record: its first `len` cells.
-#[derive(Drop)]
+#[derive(Clone, Copy)]
 struct Record {
     cells: [u64; 272],
     len: usize,

@@ -45,7 +45,7 @@ pub fn kinds_right(cells: &[u64]) -> bool
 }
 
 // What the two cells of a value, a name or a key are asked to be.
-#[derive(Drop)]
+#[derive(Clone, Copy)]
 pub(crate) enum Role {
     Argument,
     Name,

@@ -12,7 +12,7 @@ pub const VALUE: usize = 2;
 
 pub const PAIR: usize = 4;
 
-#[derive(Drop)]
+#[derive(Clone, Copy)]
 pub struct Head {
     pub p: usize,
     pub n: usize,

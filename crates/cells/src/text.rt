@@ -4,7 +4,7 @@ ghost use Rattle.rules.specs.Text.{payload_of, same_bytes};
 ghost use Rattle.cells.specs.Text.{read_text, part_at, place_at, key_of};
 
 // Where a text starts in its area, and how many bytes it has: the two halves of a payload. Both always fit a payload.
-#[derive(Drop)]
+#[derive(Clone, Copy)]
 pub struct Text {
     pub start: u16,
     pub len: u8,

@@ -9,7 +9,7 @@ ghost use Rattle.cells.specs.Value.{pair, cells_of, real_of, read_as, read_defau
 
 use crate::text::{ReadText, Text, read_text};
 
-#[derive(Drop)]
+#[derive(Clone, Copy)]
 pub enum Value {
     Nothing,
     Flag(bool),
@@ -24,7 +24,7 @@ pub enum Value {
 }
 
 // The two cells of a value.
-#[derive(Drop)]
+#[derive(Clone, Copy)]
 pub struct Pair {
     pub kind: u64,
     pub payload: u64,
@@ -36,7 +36,7 @@ pub enum ReadValue {
     Not,
 }
 
-#[derive(Drop)]
+#[derive(Clone, Copy)]
 pub enum ReadKey {
     Word(Text),
     Number(i64),

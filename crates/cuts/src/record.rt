@@ -12,7 +12,7 @@ use cells::record::pair_at;
 use cells::value::Pair;
 
 // How many of P and of N are written out, and whether a rest that is empty is given all the same.
-#[derive(Drop)]
+#[derive(Clone, Copy)]
 pub struct Cut {
     pub at_p: usize,
     pub at_n: usize,

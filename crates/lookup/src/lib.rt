@@ -9,7 +9,7 @@ use builder::spec::ParametersSpec;
 use cells::key::short_same;
 use cells::text::part;
 
-#[derive(Drop)]
+#[derive(Clone, Copy)]
 pub enum Finding {
     At(usize),
     Unknown,

@@ -32,7 +32,7 @@ pub const KEY: usize = 5;
 pub const SLOTS: usize = 929;
 
 // The cells of a row: a step's, the number of the style under which the parameter was added, and the key of its name.
-#[derive(Drop)]
+#[derive(Clone, Copy)]
 pub struct Row {
     pub code: u64,
     pub style: u64,

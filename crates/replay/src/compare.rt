@@ -11,7 +11,7 @@ const JOINED: usize = 512;
 
 // A case: the section of the input, its number there, and which of its parts, a cut, a read, a slot or an accessor, each from 1; part 0 is the
 // case itself.
-#[derive(Drop)]
+#[derive(Clone, Copy)]
 pub struct Place {
     section: u64,
     case: u64,

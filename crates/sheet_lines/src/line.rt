@@ -13,7 +13,7 @@ const LONGEST: usize = 255;
 
 // Where a line's first cell ends and where its second does, that is, where its two commas stand. They mean nothing if the line
 // is not right.
-#[derive(Drop)]
+#[derive(Clone, Copy)]
 pub struct Cells {
     pub right: bool,
     pub first: usize,

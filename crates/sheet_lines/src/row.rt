@@ -26,7 +26,7 @@ pub struct RowRead {
 }
 
 // One cell, a piece of the input.
-#[derive(Drop)]
+#[derive(Clone, Copy)]
 struct Cell {
     from: usize,
     to: usize,

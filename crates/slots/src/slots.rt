@@ -14,7 +14,7 @@ use cells::record::pair_at;
 use cells::value::Pair;
 
 // What a parameter's slot holds: nothing, a value of the call, the parameter's default, or a remainder's count.
-#[derive(Drop)]
+#[derive(Clone, Copy)]
 pub enum Slot {
     Empty,
     Taken(Pair),
