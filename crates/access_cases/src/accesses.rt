@@ -9,7 +9,7 @@ use replay::compare::{Place, fresh_board, same_board, same_name, same_numbers};
 use replay::numbers::{counted, front, piece, read_area, take};
 
 // What an accessor is given besides the record: the output's length, what its cell 0 holds, and the numbers of positionals.
-#[derive(Drop)]
+#[derive(Clone, Copy)]
 struct Given {
     len: usize,
     fill: u64,

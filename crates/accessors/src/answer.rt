@@ -6,7 +6,7 @@ ghost use Rattle.accessors.specs.Answer.{name_in, name_place};
 use answers::answer::Collected;
 
 // A name is the payload of a text in the call area.
-#[derive(Drop)]
+#[derive(Clone, Copy)]
 pub enum Accessed {
     // the number that an accessor is asked for; 0 where it is asked for none
     Answered(usize),

@@ -1,7 +1,7 @@
 // What collection answers: accepted with the four counts, or the refusal, by the Rust's names for its errors where it has them.
 
 // How many slots hold a value of the call, how many a default, and the lengths of the two remainders.
-#[derive(Drop)]
+#[derive(Clone, Copy)]
 pub struct Counts {
     pub taken: usize,
     pub defaulted: usize,
@@ -10,7 +10,7 @@ pub struct Counts {
 }
 
 // A name is the payload of a text: in the spec area at 16 and 20 to 22, in the call area at 19 and 24.
-#[derive(Drop)]
+#[derive(Clone, Copy)]
 pub enum Collected {
     Accepted(Counts),
     // 1 to 7 and 9 to 14: a question about a record or the board, by its number

@@ -9,7 +9,7 @@ use replay::numbers::{counted, front, piece, read_area, take};
 use replay::tally::Played;
 
 // The board that a case lends: its length, and what cell 0 holds.
-#[derive(Drop)]
+#[derive(Clone, Copy)]
 struct Lent {
     len: usize,
     fill: u64,

@@ -9,7 +9,7 @@ use std::num::wrapping_add_usize;
 const TEXT: usize = 524288;
 
 // Where the bytes of a case stand, and where the line feed behind them does; two zeros end the cases.
-#[derive(Drop)]
+#[derive(Clone, Copy)]
 pub struct Case {
     pub input: usize,
     pub output: usize,

@@ -21,7 +21,7 @@ impl Played {
 }
 
 // How many cases, how many that differ, how many cuts in them, and how many that repeat an argument.
-#[derive(Drop)]
+#[derive(Clone, Copy)]
 pub struct Tally {
     pub played: u64,
     pub differ: u64,

@@ -7,7 +7,7 @@ ghost use Rattle.sheet_judge.specs.Counts.{counts_of, more_as, Few};
 use sheet_lines::word::{CallPart, is_dict, is_list};
 
 // How many there are of each part; a star's kind is 0 without a row for it, 1 for a list or a dictionary, 2 for anything else.
-#[derive(Drop)]
+#[derive(Clone, Copy)]
 pub struct Counts {
     pub p: usize,
     pub n: usize,

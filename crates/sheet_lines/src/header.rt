@@ -6,7 +6,7 @@ use crate::line::parted;
 use crate::word::position;
 
 // Which of a row's three cells, counted from 0, is its part, its name and its value.
-#[derive(Drop)]
+#[derive(Clone, Copy)]
 pub struct Columns {
     pub part: usize,
     pub name: usize,

@@ -8,7 +8,7 @@ use crate::header::Columns;
 use crate::line::{Cells, three_cells};
 
 // A row's cells, each a piece of the input.
-#[derive(Drop)]
+#[derive(Clone, Copy)]
 pub struct Row {
     pub part_from: usize,
     pub part_to: usize,

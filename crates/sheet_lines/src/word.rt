@@ -9,7 +9,7 @@ use crate::piece::end_of;
 use cells::text::same;
 
 // What a row of a call adds.
-#[derive(Drop)]
+#[derive(Clone, Copy)]
 pub enum CallPart {
     Positional,
     Named,
