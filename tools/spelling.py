@@ -17,6 +17,7 @@ import sys
 CAMEL = re.compile(r"(?<=[a-z0-9])[A-Z]")
 TOKEN = re.compile(r"--[^\n]*|\"(?:[^\"\\]|\\.)*\"|[^\s(){}.;,@\"«»\[\]\\λ⟦⟧]+")
 DECLARED = re.compile(r"^\s*(?:(?:abbrev|unfoldable|opaque|instance|pub|data|record|codata) +)*([^\s:(){}.]+(?: +[^\s:(){}.]+)*)(?: *[({][^\n]*?[)}])* :(?= |$)")
+SPREAD = re.compile(r"^ *(?:(?:abbrev|unfoldable) +)?(?:pub +)?([^\s:(){}.]+)\n +: ", re.M)
 GOAL = re.compile(r"^([^\s:]+) : tie\.Need-", re.M)
 # What a proof file names after Rattle's own words and not after the repository's.
 MADE = re.compile(r"^(?:Need|After|Else|Then|Joined|In|At)-|-spec$")
@@ -24,7 +25,7 @@ MADE = re.compile(r"^(?:Need|After|Else|Then|Joined|In|At)-|-spec$")
 
 def files(end):
     for folder, dirs, names in os.walk("crates"):
-        dirs[:] = sorted(d for d in dirs if d != "out")
+        dirs[:] = sorted(d for d in dirs if d != "out" or os.path.dirname(folder) != "crates")
         for name in sorted(names):
             if name.endswith(end):
                 yield os.path.join(folder, name)
@@ -46,7 +47,7 @@ def camel(name):
 def own(text):
     """The names that a file declares at its lines' heads, those of its goals aside."""
     goals = set(GOAL.findall(text))
-    out = set()
+    out = {it for it in SPREAD.findall(text) if it not in goals and not MADE.search(it)}
     for line in text.splitlines():
         if line.lstrip().startswith("--"):
             continue

@@ -34,21 +34,21 @@ module _ (A : ℕ) (area : List ℕ) (s : Style) (before : List Parameter) (t : 
 
   -- a step that adds a parameter and may stand here is asked 6 and 7
   module _ (k : ParameterKind) (e : act t ≡ adds k) (m : may_stand s (adds k) ≡ true) where
-    pub askStep-adds
+    pub ask_step_adds
         : ask_step A area s before t
         ≡ ask 6 (ltb (length before) A)
         then ask 7 (name_is_new area s before (adds k) t.name)
     unfolding ask_step
-    askStep-adds = rw (e, m)
+    ask_step_adds = rw (e, m)
 
     pub ask_step_6 : A ≤ length before → ask_step A area s before t ≡ refuse 6 no_detail
-    ask_step_6 h = askStep-adds ∙ rw (le-ltb (length before) A h)
+    ask_step_6 h = ask_step_adds ∙ rw (le-ltb (length before) A h)
 
-    pub askStep-fine
+    pub ask_step_fine
         : length before < A
         → name_is_new area s before (adds k) t.name ≡ true
         → ask_step A area s before t ≡ fine
-    askStep-fine h n = askStep-adds ∙ rw (lt-ltb (length before) A h, n)
+    ask_step_fine h n = ask_step_adds ∙ rw (lt-ltb (length before) A h, n)
 
 -- ---- the plain kinds, of codes 1 to 3
 

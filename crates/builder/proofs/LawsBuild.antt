@@ -58,18 +58,18 @@ module _ (cells area : List ℕ) (m : ℕ) where
       (b : ParametersSpecBuilder) (i : ℕ) (left : Left cells area m b i) (h : i < m)
       (t : RecordStep) (e : t ≡ step_at cells i) (r : Stepped) (s : Stepping area b t r) where
     -- the questions and the parameters of step i and of those after it
-    asks-next
+    asks_next
         : ask_steps 64 area pos_only [] (read_parameters cells).steps
         ≡ answer_of r.answer
         then ask_steps 64 area (next_style (style_in b) (act t))
         (list_in area b ++ added area (style_in b) (act t) t.name)
         (listed (step_at cells) (i + 1) (m - (i + 1)))
-    asks-next = left.asks ∙ rw (listed_next (step_at cells) i m h, ← e, ← s.answer)
+    asks_next = left.asks ∙ rw (listed_next (step_at cells) i m h, ← e, ← s.answer)
 
     pub left_stop : (n : ℕ) → r.answer ≡ Refused n → Taking cells area r
     left_stop n a =
         record {
-          answer = rw a (sym (asks-next ∙ rw a));
+          answer = rw a (sym (asks_next ∙ rw a));
           list = λ f. never_fine n (sym a ∙ f);
           built = s.built left.built;
         }
@@ -77,7 +77,7 @@ module _ (cells area : List ℕ) (m : ℕ) where
     pub left_next : r.answer ≡ Fine → Left cells area m r.builder (i + 1)
     left_next a =
         record {
-          asks = asks-next ∙ rw (a, ← s.style a, ← s.list a);
+          asks = asks_next ∙ rw (a, ← s.style a, ← s.list a);
           list = left.list ∙ rw (listed_next (step_at cells) i m h, ← e, ← s.style a, s.list a, append_assoc);
           built = s.built left.built;
         }
@@ -125,7 +125,7 @@ module _ (cells area : List ℕ) where
               record {
                 answer = sym (rw (one, two, three, four, ← taking.answer, e));
                 fine = λ f. rw (is, ← taking.list e) is_list;
-                within = λ f. rw (is, taking.built.positional_only, taking.built.positional, taking.list e) ((step_counts area).only-within (read_parameters cells).steps);
+                within = λ f. rw (is, taking.built.positional_only, taking.built.positional, taking.list e) ((step_counts area).only_within (read_parameters cells).steps);
                 refused = λ n f. never_refused n f;
               }
             where

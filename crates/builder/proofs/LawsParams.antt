@@ -60,11 +60,11 @@ takes_name_other (suc zero) h = absurd (⊎_elim (λ a. omega arith) (λ b. omeg
 takes_name_other (suc (suc zero)) h = absurd (⊎_elim (λ a. omega arith) (λ b. omega arith) h)
 takes_name_other (suc (suc (suc n))) h = refl
 
-pub nameable-at
+pub nameable_at
     : (area : List ℕ) (p : Parameters) (i : ℕ)
     → nameable (parameter_at area p i) ≡ may_be_named (get_or p.codes i 0) (get_or p.styles i 0)
 unfolding nameable parameter_at parameter_of may_be_named
-nameable-at area p i = rw (plain_any (get_or p.codes i 0) _ no_value)
+nameable_at area p i = rw (plain_any (get_or p.codes i 0) _ no_value)
 
 -- ---- one more parameter at the end
 
@@ -116,11 +116,11 @@ module _ (area : List ℕ) (p : Parameters) (code style name : ℕ) (v : Value) 
         get_or-set_same p.default_payloads p.len v.payload 0 r.payloads,
       )
 
-  pub stored-list
+  pub stored_list
       : Room p p.len
       → parameters_in area (stored p code style name v) ≡ parameters_in area p ++ parameter_of area code style name v ∷ []
   unfolding parameters_in
-  stored-list r =
+  stored_list r =
       listed_more (parameter_at area (stored p code style name v)) p.len
       ∙ snoc_same (Listed-same _ _ 0 p.len (λ j l u. stored_before j (omega arith))) (stored_at r)
 
@@ -132,7 +132,7 @@ pub names_at
     ≡ may_be_named (get_or p.codes i 0) (get_or p.styles i 0) && same_bytes bytes (bytes_at area (get_or p.names i 0))
 unfolding names parameter_at parameter_of text_in
 names_at area bytes p i =
-    ap (λ (b : Bool). b && same_bytes bytes (bytes_at area (get_or p.names i 0))) (nameable-at area p i)
+    ap (λ (b : Bool). b && same_bytes bytes (bytes_at area (get_or p.names i 0))) (nameable_at area p i)
 
 -- the parameter at an index has these bytes and can be named, from the answers to the two tests: a for the bytes x of its name, b for the rest
 module _

@@ -40,7 +40,7 @@ pub steps_listed : (cells : List ℕ) → (read_parameters cells).steps ≡ list
 unfolding read_parameters step_width
 steps_listed cells = read_each_listed cells 0 (step_count cells)
 
-pub stepAt-cells
+pub step_at_cells
     : (cells : List ℕ) (i : ℕ)
     → step_at cells i
     ≡ record {
@@ -49,7 +49,7 @@ pub stepAt-cells
       default = record { kind = get_or cells (1 + 4 * i + 2) 0; payload = get_or cells (1 + 4 * i + 3) 0 };
     }
 unfolding step_at read_step read_value
-stepAt-cells cells i =
+step_at_cells cells i =
     let e : 1 + 4 * i + 2 + 0 ≡ 1 + 4 * i + 2 = omega arith in
     let f : 1 + 4 * i + 2 + 1 ≡ 1 + 4 * i + 3 = omega arith in
     simp (drop-drop, get_or-drop, add-zero, e, f)

@@ -29,10 +29,10 @@ use Rattle.builder.specs.Params.{style_of, kind_for, step_of, parameters_in, par
 use Rattle.builder.specs.Spec.{SoFar, Built, Longer, Stepping, refused_by, under_style, style_in, params_of, list_in, index_of}
 use Rattle.builder.specs.contracts.params.CurrentParameterStyle.{the_type}
 use Rattle.rules.proofs.LawsCounts.{step_within}
-use Rattle.cells.proofs.LawsListed.{length_listed, tally_snoc, first-snoc, or_first}
+use Rattle.cells.proofs.LawsListed.{length_listed, tally_snoc, first_snoc, or_first}
 use Rattle.builder.proofs.LawsCodes.{may_stand_star, code_8}
-use Rattle.builder.proofs.LawsParams.{Room, stored, stored-list, style_for_rank, known_columns}
-use Rattle.builder.proofs.LawsAsk.{ask_step_5, ask_step_slash, ask_step_star, askStep-adds, ask_step_6, askStep-fine, may_stand_plain, next_style_plain, is_args_plain, is_kwargs_plain, act_code, act_plain, kind_plain}
+use Rattle.builder.proofs.LawsParams.{Room, stored, stored_list, style_for_rank, known_columns}
+use Rattle.builder.proofs.LawsAsk.{ask_step_5, ask_step_slash, ask_step_star, ask_step_adds, ask_step_6, ask_step_fine, may_stand_plain, next_style_plain, is_args_plain, is_kwargs_plain, act_code, act_plain, kind_plain}
 
 -- ---- the promise of a step
 
@@ -47,11 +47,11 @@ unfolding parameters_in
 length_parameters_in area b = length_listed _ 0 b.len
 
 module _ (area : List ℕ) (b : ParametersSpecBuilder) (t : RecordStep) where
-  pub stepping-refused
+  pub stepping_refused
       : (n : ℕ)
       → ask_step 64 area (style_in b) (list_in area b) t ≡ refuse n no_detail
       → Stepping area b t (refused_by n b)
-  stepping-refused n e =
+  stepping_refused n e =
       record {
         answer = sym e;
         refused = λ m p. refl;
@@ -60,14 +60,14 @@ module _ (area : List ℕ) (b : ParametersSpecBuilder) (t : RecordStep) where
         built = λ h. h;
       }
 
-  pub stepping-fine
+  pub stepping_fine
       : (b' : ParametersSpecBuilder)
       → ask_step 64 area (style_in b) (list_in area b) t ≡ fine
       → style_in b' ≡ next_style (style_in b) (act t)
       → list_in area b' ≡ list_in area b ++ added area (style_in b) (act t) t.name
       → (Built area b → Built area b')
       → Stepping area b t (record { answer = Fine; builder = b' })
-  stepping-fine b' e style list built =
+  stepping_fine b' e style list built =
       record {
         answer = sym e;
         refused = λ m p. never_refused m p;
@@ -77,18 +77,18 @@ module _ (area : List ℕ) (b : ParametersSpecBuilder) (t : RecordStep) where
       }
 
   pub stepping_5 : may_stand (style_in b) (act t) ≡ false → Stepping area b t (refused_by 5 b)
-  stepping_5 e = stepping-refused 5 (ask_step_5 64 area (style_in b) (list_in area b) t e)
+  stepping_5 e = stepping_refused 5 (ask_step_5 64 area (style_in b) (list_in area b) t e)
 
   -- a mark changes the style alone
-  stepping-mark
+  stepping_mark
       : (style : CurrentParameterStyle)
       → ask_step 64 area (style_in b) (list_in area b) t ≡ fine
       → style_of style ≡ next_style (style_in b) (act t)
       → added area (style_in b) (act t) t.name ≡ []
       → (SoFar (style_in b) b → SoFar (style_of style) (under_style style b).builder)
       → Stepping area b t (under_style style b)
-  stepping-mark style e next nothing sofar =
-      stepping-fine (under_style style b).builder e next (rw nothing (sym (append-nil (list_in area b))))
+  stepping_mark style e next nothing sofar =
+      stepping_fine (under_style style b).builder e next (rw nothing (sym (append-nil (list_in area b))))
       (λ h.
       record {
         room = h.room;
@@ -103,14 +103,14 @@ module _ (area : List ℕ) (b : ParametersSpecBuilder) (t : RecordStep) where
 -- ---- the marks
 
 -- before NamedOnly there is neither *args nor **kwargs, and before NoMore no **kwargs
-sofar-named
+sofar_named
     : (s : Style) (b : ParametersSpecBuilder)
     → comes_before s named_only ≡ true → SoFar s b → (b.args ≡ Absent) × (b.kwargs ≡ Absent)
 unfolding comes_before
-sofar-named pos_only b m h = (h.2, h.3)
-sofar-named pos_or_named b m h = (h.1, h.2)
-sofar-named named_only b m h = absurd (false≢true m)
-sofar-named no_more b m h = absurd (false≢true m)
+sofar_named pos_only b m h = (h.2, h.3)
+sofar_named pos_or_named b m h = (h.1, h.2)
+sofar_named named_only b m h = absurd (false≢true m)
+sofar_named no_more b m h = absurd (false≢true m)
 
 sofar_more : (s : Style) (b : ParametersSpecBuilder) → comes_before s no_more ≡ true → SoFar s b → b.kwargs ≡ Absent
 unfolding comes_before
@@ -120,27 +120,27 @@ sofar_more named_only b m h = h
 sofar_more no_more b m h = absurd (false≢true m)
 
 -- the / mark, after which a name will do as well
-pub stepping-slash
+pub stepping_slash
     : (area : List ℕ) (b : ParametersSpecBuilder) (t : RecordStep)
     → style_in b ≡ pos_only → act t ≡ slash → Stepping area b t (under_style PosOrNamed b)
 unfolding comes_before
-stepping-slash area b t s e =
-    stepping-mark area b t PosOrNamed
+stepping_slash area b t s e =
+    stepping_mark area b t PosOrNamed
     (ask_step_slash 64 area (style_in b) (list_in area b) t e (rw s))
     (rw e)
     (rw e)
     (rw s (λ h. (h.1, h.2, h.3)))
 
 -- the bare * mark, after which only a name will do
-pub stepping-star
+pub stepping_star
     : (area : List ℕ) (b : ParametersSpecBuilder) (t : RecordStep)
     → comes_before (style_in b) named_only ≡ true → act t ≡ bare_star → Stepping area b t (under_style NamedOnly b)
-stepping-star area b t s e =
-    stepping-mark area b t NamedOnly
+stepping_star area b t s e =
+    stepping_mark area b t NamedOnly
     (ask_step_star 64 area (style_in b) (list_in area b) t e s)
     (rw e)
     (rw e)
-    (λ h. (sofar-named (style_in b) b s h).1)
+    (λ h. (sofar_named (style_in b) b s h).1)
 
 -- ---- a step that adds a parameter
 
@@ -149,16 +149,16 @@ module _
     (e : act (step_of s) ≡ adds k) (m : may_stand (style_in b) (adds k) ≡ true) where
   pub adding_6 : 64 ≤ b.len → Stepping area b (step_of s) (refused_by 6 b)
   adding_6 h =
-      stepping-refused area b (step_of s) 6
+      stepping_refused area b (step_of s) 6
       (ask_step_6 64 area (style_in b) (list_in area b) (step_of s) k e m (rw length_parameters_in h))
 
   -- 6 and 7 are answered well
-  adding-asked
+  adding_asked
       : b.len < 64
       → name_is_new area (style_in b) (list_in area b) (adds k) s.name ≡ true
       → ask_step 64 area (style_in b) (list_in area b) (step_of s) ≡ fine
   unfolding step_of
-  adding-asked h n = askStep-fine 64 area (style_in b) (list_in area b) (step_of s) k e m (rw length_parameters_in h) n
+  adding_asked h n = ask_step_fine 64 area (style_in b) (list_in area b) (step_of s) k e m (rw length_parameters_in h) n
 
   -- the parameter added
   abbrev pub newest : Parameter
@@ -168,21 +168,21 @@ module _
     list_newest : list_in area b' ≡ list_in area b ++ newest ∷ []
     list_newest = p.list area ∙ rw e
 
-    pub adding-fine
+    pub adding_fine
         : ask_step 64 area (style_in b) (list_in area b) (step_of s) ≡ fine
         → style_in b' ≡ next_style (style_in b) (adds k)
         → (Built area b → Built area b')
         → Stepping area b (step_of s) (record { answer = Fine; builder = b' })
     unfolding step_of
-    adding-fine asked style built =
-        stepping-fine area b (step_of s) b'
+    adding_fine asked style built =
+        stepping_fine area b (step_of s) b'
         asked
         (rw e style)
         (list_newest ∙ rw e)
         built
 
     -- counts and indices that took in the newest parameter are those of the longer list
-    pub built-newest
+    pub built_newest
         : b.len < 64
         → b'.positional_only ≡ cond (positional_only newest) (b.positional_only + 1) b.positional_only
         → b'.positional ≡ cond (positional newest) (b.positional + 1) b.positional
@@ -192,7 +192,7 @@ module _
         → Built area b
         → Built area b'
     unfolding positional_only_count positional_count args_index kwargs_index
-    built-newest h only all star double sofar built =
+    built_newest h only all star double sofar built =
         let only_counts : b'.positional_only ≡ positional_only_count (list_in area b') = only ∙ rw (list_newest, tally_snoc, ← built.positional_only) in
         let all_counts : b'.positional ≡ positional_count (list_in area b') = all ∙ rw (list_newest, tally_snoc, ← built.positional) in
         record {
@@ -200,30 +200,30 @@ module _
           positional_only = only_counts;
           positional = all_counts;
           within = rw (only_counts, all_counts, list_newest) (step_within area (list_in area b) (style_in b) (adds k) s.name (rw (← built.positional_only, ← built.positional) built.within));
-          args = star ∙ rw (list_newest, first-snoc, ← built.args, length_parameters_in, zero-add);
-          kwargs = double ∙ rw (list_newest, first-snoc, ← built.kwargs, length_parameters_in, zero-add);
+          args = star ∙ rw (list_newest, first_snoc, ← built.args, length_parameters_in, zero-add);
+          kwargs = double ∙ rw (list_newest, first_snoc, ← built.kwargs, length_parameters_in, zero-add);
           sofar = sofar;
         }
 
 -- ---- a parameter stored in the columns, under the number n of the style so far
 
-pub longer-stored
+pub longer_stored
     : (b b' : ParametersSpecBuilder) (s : Step) (n : ℕ)
     → n ≡ rank (style_in b)
     → Room (params_of b) b.len
     → params_of b' ≡ stored (params_of b) s.code n s.name (step_of s).default
     → Longer b s b'
 unfolding act step_of parameter_of
-longer-stored b b' s n e room same =
+longer_stored b b' s n e room same =
     record {
       len = ap (λ (p : Parameters). p.len) same;
       list = λ area.
-          rw (same, stored-list area (params_of b) s.code n s.name (step_of s).default room, e, style_for_rank (style_in b));
+          rw (same, stored_list area (params_of b) s.code n s.name (step_of s).default room, e, style_for_rank (style_in b));
     }
 
 -- ---- 6 and 7 of a plain parameter, over the columns
 
-pub asked-plain
+pub asked_plain
     : (area : List ℕ) (b : ParametersSpecBuilder) (s : Step)
     → 1 ≤ s.code
     → s.code < 4
@@ -231,18 +231,18 @@ pub asked-plain
     → ask_step 64 area (style_in b) (list_in area b) (step_of s)
     ≡ ask_adding area b.codes b.styles b.names b.len (style_in b) s.name
 unfolding step_of
-asked-plain area b s l u m =
+asked_plain area b s l u m =
     let pk = kind_plain s l u in
-    askStep-adds 64 area (style_in b) (list_in area b) (step_of s) (kind_for (act (step_of s))) (act_plain s l u)
+    ask_step_adds 64 area (style_in b) (list_in area b) (step_of s) (kind_for (act (step_of s))) (act_plain s l u)
     (may_stand_plain (style_in b) (kind_for (act (step_of s))) pk ∙ m)
     ∙ rw (length_parameters_in, pk, known_columns)
 
 -- where they are answered well there is room
-pub asked-room
+pub asked_room
     : (area : List ℕ) (b : ParametersSpecBuilder) (s : Step)
     → ask_adding area b.codes b.styles b.names b.len (style_in b) s.name ≡ fine
     → b.len < 64
-asked-room area b s e = go (ltb b.len 64) refl (ask 7 (new_in area b.codes b.styles b.names b.len (style_in b) s.name)) e
+asked_room area b s e = go (ltb b.len 64) refl (ask 7 (new_in area b.codes b.styles b.names b.len (style_in b) s.name)) e
   where
     go : (t : Bool) → ltb b.len 64 ≡ t → (q : Answer) → (ask 6 t then q) ≡ fine → b.len < 64
     go true h q f = ltb-true b.len 64 h
@@ -251,7 +251,7 @@ asked-room area b s e = go (ltb b.len 64) refl (ask 7 (new_in area b.codes b.sty
 -- ---- the three ways to add
 
 -- under a style a plain parameter moves the counts on by one, as far as the style lets it be positional
-add-sofar
+add_sofar
     : (s : Style) (b b' : ParametersSpecBuilder)
     → comes_before s no_more ≡ true
     → b'.len ≡ b.len + 1
@@ -264,11 +264,11 @@ add-sofar
     × (b'.positional ≡ cond (takes_position s) (b.positional + 1) b.positional)
     × SoFar s b'
 unfolding comes_before
-add-sofar pos_only b b' m l only all star double h =
+add_sofar pos_only b b' m l only all star double h =
     (omega arith, omega arith, (omega arith, omega arith, star ∙ h.2, double ∙ h.3))
-add-sofar pos_or_named b b' m l only all star double h = (only, omega arith, (omega arith, star ∙ h.1, double ∙ h.2))
-add-sofar named_only b b' m l only all star double h = (only, all, double ∙ h)
-add-sofar no_more b b' m l only all star double h = absurd (false≢true m)
+add_sofar pos_or_named b b' m l only all star double h = (only, omega arith, (omega arith, star ∙ h.1, double ∙ h.2))
+add_sofar named_only b b' m l only all star double h = (only, all, double ∙ h)
+add_sofar no_more b b' m l only all star double h = absurd (false≢true m)
 
 -- an index that a parameter of another kind leaves as it is
 or_first_false : (o : Option ℕ) (i : ℕ) → o ≡ or_first o false i
@@ -276,7 +276,7 @@ or_first_false none i = refl
 or_first_false (some j) i = refl
 
 -- a plain parameter, under the style that stays
-pub adding-plain
+pub adding_plain
     : (area : List ℕ) (b b' : ParametersSpecBuilder) (s : Step)
     → 1 ≤ s.code
     → s.code < 4
@@ -290,15 +290,15 @@ pub adding-plain
     → b'.kwargs ≡ b.kwargs
     → Stepping area b (step_of s) (record { answer = Fine; builder = b' })
 unfolding positional_only positional
-adding-plain area b b' s l u m asked p only all same star double =
+adding_plain area b b' s l u m asked p only all same star double =
     let k = kind_for (act (step_of s)) in
     let e = act_plain s l u in
     let pk = kind_plain s l u in
     let stands : may_stand (style_in b) (adds k) ≡ true = may_stand_plain (style_in b) k pk ∙ m in
-    adding-fine area b s k e stands b' p (asked-plain area b s l u m ∙ asked) (ap style_of same ∙ next_style_plain (style_in b) k pk)
+    adding_fine area b s k e stands b' p (asked_plain area b s l u m ∙ asked) (ap style_of same ∙ next_style_plain (style_in b) k pk)
     (λ was.
-    let so = add-sofar (style_in b) b b' m p.len only all star double was.sofar in
-    built-newest area b s k e stands b' p (asked-room area b s asked)
+    let so = add_sofar (style_in b) b b' m p.len only all star double was.sofar in
+    built_newest area b s k e stands b' p (asked_room area b s asked)
     (rw pk so.0)
     (rw pk so.1)
     (rw (is_args_plain k pk) (ap index_of star ∙ or_first_false (index_of b.args) b.len))
@@ -307,7 +307,7 @@ adding-plain area b b' s l u m asked p only all same star double =
     was)
 
 -- *args, after which no parameter is positional
-pub adding-args
+pub adding_args
     : (area : List ℕ) (b b' : ParametersSpecBuilder) (s : Step)
     → act (step_of s) ≡ adds args
     → comes_before (style_in b) named_only ≡ true
@@ -320,18 +320,18 @@ pub adding-args
     → b'.kwargs ≡ b.kwargs
     → Stepping area b (step_of s) (record { answer = Fine; builder = b' })
 unfolding positional_only positional
-adding-args area b b' s e m h p only all style star double =
-    adding-fine area b s args e m b' p (adding-asked area b s args e m h refl) style
+adding_args area b b' s e m h p only all style star double =
+    adding_fine area b s args e m b' p (adding_asked area b s args e m h refl) style
     (λ was.
-    let so = sofar-named (style_in b) b m was.sofar in
-    built-newest area b s args e m b' p h only all
+    let so = sofar_named (style_in b) b m was.sofar in
+    built_newest area b s args e m b' p h only all
     (rw (star, so.0))
     (ap index_of double ∙ or_first_false (index_of b.kwargs) b.len)
     (rw style (double ∙ so.1))
     was)
 
 -- **kwargs, after which there is no parameter
-pub adding-kwargs
+pub adding_kwargs
     : (area : List ℕ) (b b' : ParametersSpecBuilder) (s : Step)
     → act (step_of s) ≡ adds kwargs
     → comes_before (style_in b) no_more ≡ true
@@ -344,10 +344,10 @@ pub adding-kwargs
     → b'.kwargs ≡ At b.len
     → Stepping area b (step_of s) (record { answer = Fine; builder = b' })
 unfolding positional_only positional
-adding-kwargs area b b' s e m h p only all style star double =
-    adding-fine area b s kwargs e m b' p (adding-asked area b s kwargs e m h refl) style
+adding_kwargs area b b' s e m h p only all style star double =
+    adding_fine area b s kwargs e m b' p (adding_asked area b s kwargs e m h refl) style
     (λ was.
-    built-newest area b s kwargs e m b' p h only all
+    built_newest area b s kwargs e m b' p h only all
     (ap index_of star ∙ or_first_false (index_of b.args) b.len)
     (rw (double, sofar_more (style_in b) b m was.sofar))
     (rw style tt)
@@ -356,12 +356,12 @@ adding-kwargs area b b' s e m h p only all style star double =
 -- ---- a code judged against the style
 
 module _ (area : List ℕ) (b : ParametersSpecBuilder) (s : Step) where
-  pub refused-code
+  pub refused_code
       : (n : ℕ) (style : CurrentParameterStyle)
       → s.code ≡ n → b.current_style ≡ style
       → may_stand (style_of style) (act_of n (step_of s).default) ≡ false
       → Stepping area b (step_of s) (refused_by 5 b)
-  refused-code n style e d m = stepping_5 area b (step_of s) (rw (act_code s n e, d) m)
+  refused_code n style e d m = stepping_5 area b (step_of s) (rw (act_code s n e, d) m)
 
   pub refused_plain : 1 ≤ s.code → s.code < 4 → b.current_style ≡ NoMore → Stepping area b (step_of s) (refused_by 5 b)
   unfolding comes_before
@@ -369,12 +369,12 @@ module _ (area : List ℕ) (b : ParametersSpecBuilder) (s : Step) where
       stepping_5 area b (step_of s)
       (rw (act_plain s l u) (may_stand_plain (style_in b) (kind_for (act (step_of s))) (kind_plain s l u) ∙ rw d))
 
-  pub refused-star
+  pub refused_star
       : (style : CurrentParameterStyle)
       → 5 ≤ s.code → s.code < 7 → b.current_style ≡ style
       → comes_before (style_of style) named_only ≡ false
       → Stepping area b (step_of s) (refused_by 5 b)
-  refused-star style l u d m =
+  refused_star style l u d m =
       stepping_5 area b (step_of s)
       (rw (act_code s s.code refl) (may_stand_star (step_of s).default (style_in b) s.code l u ∙ rw d m))
 

@@ -74,15 +74,15 @@ module _ {X : Type 0} where
       go false true e = e
       go false false e = e
 
-  pub first-snoc
+  pub first_snoc
       : (test : X → Bool) (i : ℕ) (xs : List X) (x : X)
       → first_from test i (xs ++ x ∷ []) ≡ or_first (first_from test i xs) (test x) (i + length xs)
-  first-snoc test i [] x = go (test x)
+  first_snoc test i [] x = go (test x)
     where
       go : (b : Bool) → cond b (some i) none ≡ or_first none b (i + 0)
       go true = rw (add-zero i)
       go false = refl
-  first-snoc test i (y ∷ ys) x = go (test y) (first-snoc test (suc i) ys x)
+  first_snoc test i (y ∷ ys) x = go (test y) (first_snoc test (suc i) ys x)
     where
       go : (a : Bool) → first_from test (suc i) (ys ++ x ∷ []) ≡ or_first (first_from test (suc i) ys) (test x) (suc i + length ys)
           → cond a (some i) (first_from test (suc i) (ys ++ x ∷ [])) ≡ or_first (cond a (some i) (first_from test (suc i) ys)) (test x) (i + suc (length ys))

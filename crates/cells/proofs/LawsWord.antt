@@ -122,10 +122,10 @@ pub key_all : (zs : List ℕ) → length zs ≤ 8 → key_of zs ≡ key_from 0 z
 unfolding key_of
 key_all zs few = ap (key_from 0) (take_all 8 zs few)
 
-pub shifts-same
+pub shifts_same
     : (xs ys : List ℕ) (v w : ℕ) → IsWord xs v → IsWord ys w → 8 ≤ length xs → 8 ≤ length ys → (n : ℕ) → n ≤ 8
     → eqb (v / 2 ^ (64 - 8 * n)) (w / 2 ^ (64 - 8 * n)) ≡ same_bytes (take n xs) (take n ys)
-shifts-same xs ys v w p q lx ly n few =
+shifts_same xs ys v w p q lx ly n few =
     same_test (eqb (v / 2 ^ (64 - 8 * n)) (w / 2 ^ (64 - 8 * n))) (same_bytes (take n xs) (take n ys))
     (λ e. eq_same_bytes (take n xs) (take n ys) (same (sym (front_shift xs v p lx n few) ∙ eqb-true _ _ e ∙ front_shift ys w q ly n few)))
     (λ e. eq-eqb _ _ (front_shift xs v p lx n few ∙ ap key_of (same_bytes_eq (take n xs) (take n ys) e) ∙ sym (front_shift ys w q ly n few)))

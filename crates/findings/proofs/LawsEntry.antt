@@ -29,7 +29,7 @@ use Rattle.builder.specs.declared.spec.ParametersSpec.{ParametersSpec}
 use Rattle.lookup.specs.declared.Finding.{Finding}
 use Rattle.lookup.specs.declared.Finding.TheVariants.{At, Unknown}
 use Rattle.lookup.specs.Lookup.{finding_of, find_in}
-use Rattle.lookup.proofs.LawsBuilt.{lookup-columns}
+use Rattle.lookup.proofs.LawsBuilt.{lookup_columns}
 use Rattle.answers.specs.Answer.{place_of}
 use Rattle.calls.proofs.LawsNamed.{key_inside}
 use Rattle.findings.specs.Resolved.{Resolved}
@@ -78,7 +78,7 @@ module _ (spec : List ℕ) (l : ParametersSpec) (cells area : List ℕ) (list : 
 
   module _ (text : eqb (pair_at cells pair).kind call_text ≡ true) where
     found_text : finding_of found ≡ find qs (bytes_at area (pair_at cells pair).payload)
-    found_text = lookup-columns spec (bytes_at area (pair_at cells pair).payload) l.params list.is_list.room list.inside
+    found_text = lookup_columns spec (bytes_at area (pair_at cells pair).payload) l.params list.is_list.room list.inside
 
     part_text : part_at area (pair_at cells pair).payload ≡ bytes_at area (pair_at cells pair).payload
     unfolding part_at

@@ -23,7 +23,7 @@ use Rattle.builder.specs.declared.spec.ParametersSpec.{ParametersSpec}
 use Rattle.cells.proofs.LawsListed.{length_listed, listed_next, listed_more}
 use Rattle.lookup.specs.declared.Finding.{Finding}
 use Rattle.lookup.specs.Lookup.{find_in, finding_of}
-use Rattle.lookup.proofs.LawsBuilt.{lookup-columns, one_fits}
+use Rattle.lookup.proofs.LawsBuilt.{lookup_columns, one_fits}
 use Rattle.findings.specs.Resolved.{named_at, Resolved}
 use Rattle.findings.specs.Resolve.{found_in, found_at, Below, OneEach, sources_after, rest_after, count_after, pairs_from, Prepared, Naming}
 use Rattle.findings.specs.Entries.{held_names, repeats_by}
@@ -58,7 +58,7 @@ module _ (spec : List ℕ) (l : ParametersSpec) (cells area : List ℕ) (list : 
   unfolding found_in part_at named_at named_in text_in read_pair pair_at
   found_is pair e =
       ap (λ b. finding_of (find_in spec l.params.codes l.params.styles l.params.names l.params.len (cond b (bytes_at area (pair_at cells pair).payload) []))) e
-      ∙ lookup-columns spec (bytes_at area (pair_at cells pair).payload) l.params list.is_list.room list.inside
+      ∙ lookup_columns spec (bytes_at area (pair_at cells pair).payload) l.params list.is_list.room list.inside
 
   pub one_each : OneEach spec l.params.codes l.params.styles l.params.names l.params.len
   one_each bytes = one_fits spec bytes l.params list.is_list.room list.inside list.apart

@@ -1,5 +1,5 @@
--- What a lookup means: in columns whose nameable names lie inside the area it is a lookup in the list that they are (`lookup-columns`), and
--- so in a list that `build` hands out it finds the index of the nameable parameter with these bytes, or none (`lookup-built`). Where no two
+-- What a lookup means: in columns whose nameable names lie inside the area it is a lookup in the list that they are (`lookup_columns`), and
+-- so in a list that `build` hands out it finds the index of the nameable parameter with these bytes, or none (`lookup_built`). Where no two
 -- of its parameters have one name, a name fits one of them at the most (`one_fits`).
 -- Before them: a candidate fits where `rules` says that the bytes name it, and so does the first.
 -- Assumes nothing.
@@ -28,7 +28,7 @@ use Rattle.cells.specs.Listed.{listed}
 use Rattle.builder.specs.Params.{may_be_named, parameter_of, parameter_at, parameters_in}
 use Rattle.cells.specs.Answer.{answer_of}
 use Rattle.builder.specs.Build.{Building}
-use Rattle.builder.proofs.LawsParams.{nameable-at, names_at}
+use Rattle.builder.proofs.LawsParams.{nameable_at, names_at}
 use Rattle.lookup.specs.declared.Finding.{Finding}
 use Rattle.lookup.specs.declared.Finding.TheVariants.{At, Unknown}
 use Rattle.lookup.specs.Lookup.{finding_of, fits, fits_at, first_at, find_in, OneFits}
@@ -40,13 +40,13 @@ module _ (area bytes : List ℕ) (p : Parameters) where
       : (i : ℕ) → name_inside area (parameter_at area p i) ≡ true
       → not (may_be_named (get_or p.codes i 0) (get_or p.styles i 0)) || inside area (get_or p.names i 0) ≡ true
   unfolding name_inside parameter_at parameter_of text_in
-  name_inside_lem i e = rw (← nameable-at area p i) e
+  name_inside_lem i e = rw (← nameable_at area p i) e
 
-  fits-names
+  fits_names
       : (i : ℕ) → name_inside area (parameter_at area p i) ≡ true
       → fits_at area p.codes p.styles p.names bytes i ≡ names bytes (parameter_at area p i)
   unfolding fits_at fits name_inside
-  fits-names i e =
+  fits_names i e =
       go (may_be_named (get_or p.codes i 0) (get_or p.styles i 0)) (inside area (get_or p.names i 0))
       (same_bytes bytes (bytes_at area (get_or p.names i 0)))
       (name_inside_lem i e)
@@ -57,13 +57,13 @@ module _ (area bytes : List ℕ) (p : Parameters) where
       go true true s e = refl
       go true false s e = absurd (false≢true e)
 
-  first-names
+  first_names
       : (i n : ℕ) → all (name_inside area) (listed (parameter_at area p) i n) ≡ true
       → finding_of (first_at (fits_at area p.codes p.styles p.names bytes) i n) ≡ find_from i (listed (parameter_at area p) i n) bytes
-  first-names i zero e = refl
-  first-names i (suc n) e =
-      rw (fits-names i (and_left (name_inside area (parameter_at area p i)) (all (name_inside area) (listed (parameter_at area p) (suc i) n)) e))
-      (go (names bytes (parameter_at area p i)) (first-names (suc i) n (and_right (name_inside area (parameter_at area p i)) (all (name_inside area) (listed (parameter_at area p) (suc i) n)) e)))
+  first_names i zero e = refl
+  first_names i (suc n) e =
+      rw (fits_names i (and_left (name_inside area (parameter_at area p i)) (all (name_inside area) (listed (parameter_at area p) (suc i) n)) e))
+      (go (names bytes (parameter_at area p i)) (first_names (suc i) n (and_right (name_inside area (parameter_at area p i)) (all (name_inside area) (listed (parameter_at area p) (suc i) n)) e)))
     where
       go : (b : Bool)
           → finding_of (first_at (fits_at area p.codes p.styles p.names bytes) (suc i) n) ≡ find_from (suc i) (listed (parameter_at area p) (suc i) n) bytes
@@ -73,20 +73,20 @@ module _ (area bytes : List ℕ) (p : Parameters) where
       go false r = r
 
   -- a lookup in columns whose nameable names lie inside the area is one in the list that they are
-  pub lookup-columns
+  pub lookup_columns
       : p.len ≤ 64 → all (name_inside area) (parameters_in area p) ≡ true
       → finding_of (find_in area p.codes p.styles p.names p.len bytes) ≡ find (parameters_in area p) bytes
   unfolding find_in find parameters_in
-  lookup-columns room e =
+  lookup_columns room e =
       let m : min p.len 64 ≡ p.len = omega arith in
-      rw m (first-names 0 p.len e)
+      rw m (first_names 0 p.len e)
 
   -- where no two of its parameters have one name, whichever a name fits is what is found
   pub one_fits
       : p.len ≤ 64 → all (name_inside area) (parameters_in area p) ≡ true → names_apart [] (parameters_in area p) ≡ true
       → OneFits area p.codes p.styles p.names p.len bytes
   unfolding parameters_in find
-  one_fits room e apart i below f = found (find_in area p.codes p.styles p.names p.len bytes) (lookup-columns room e)
+  one_fits room e apart i below f = found (find_in area p.codes p.styles p.names p.len bytes) (lookup_columns room e)
     where
       qs : List Parameter
       qs = listed (parameter_at area p) 0 p.len
@@ -102,7 +102,7 @@ module _ (area bytes : List ℕ) (p : Parameters) where
           ap (λ k. is_at k (find_from 0 qs bytes)) (sym (zero-add i))
           ∙ sym (names-at-index [] 0 qs bytes apart i (parameter_at area p 0) (omega (arith, size)))
           ∙ ap (names bytes) here
-          ∙ sym (fits-names i (sym (ap (name_inside area) here) ∙ all_at (name_inside area) qs i (parameter_at area p 0) (omega (arith, size)) e))
+          ∙ sym (fits_names i (sym (ap (name_inside area) here) ∙ all_at (name_inside area) qs i (parameter_at area p 0) (omega (arith, size)) e))
           ∙ f
 
       found : (g : Finding) → finding_of g ≡ find_from 0 qs bytes → g ≡ At i
@@ -110,11 +110,11 @@ module _ (area bytes : List ℕ) (p : Parameters) where
       found Unknown q = absurd (false≢true (ap (is_at i) q ∙ named))
 
 -- a lookup in a list that is built is a lookup in the list that the record describes
-pub lookup-built
+pub lookup_built
     : (cells area bytes : List ℕ) (r : Finished) → Building cells area r → r.answer ≡ Fine
     → finding_of (find_in area r.list.params.codes r.list.params.styles r.list.params.names r.list.params.len bytes)
     ≡ find (list_of cells area) bytes
-lookup-built cells area bytes r b e =
+lookup_built cells area bytes r b e =
     let is = b.fine e in
-    lookup-columns area bytes r.list.params is.room (rw is.parameters (list_name_inside 64 cells area (sym b.answer ∙ ap answer_of e)))
+    lookup_columns area bytes r.list.params is.room (rw is.parameters (list_name_inside 64 cells area (sym b.answer ∙ ap answer_of e)))
     ∙ ap (λ qs. find qs bytes) is.parameters

@@ -112,11 +112,11 @@ module _ (area : List ℕ) (name : ℕ) where
   inside_both s e = rw (le-leb (name / 256) 65535 s, le-leb (name / 256 + name % 256) (length area) e)
 
 -- a nameable candidate that is known to have the name of a payload in another area fits it
-pub fits-short
+pub fits_short
     : (area : List ℕ) (code style name : ℕ) (call : List ℕ) (payload : ℕ) → may_be_named code style ≡ true → ShortSame call payload area name
     → fits area (part_at call payload) code style name ≡ true
 unfolding fits part_at
-fits-short area code style name call payload m s = rw (m, s.other, s.one) s.same
+fits_short area code style name call payload m s = rw (m, s.other, s.one) s.same
 
 module _ (area bytes : List ℕ) (code style name : ℕ) where
   pub fits_style : may_be_named code style ≡ false → fits area bytes code style name ≡ false
@@ -156,10 +156,10 @@ module _ (area bytes : List ℕ) (start size j : ℕ) (e : start + size ≤ leng
   part_at : get_or (take size (drop start area)) j 0 ≡ get_or area (start + j) 0
   part_at = rw (get_or-take, get_or-drop)
 
-  pub bytes-differ
+  pub bytes_differ
       : (get_or bytes j 0 ≡ get_or area (start + j) 0 → ⊥)
       → same_bytes (drop j bytes) (drop j (take size (drop start area))) ≡ false
-  bytes-differ n =
+  bytes_differ n =
       same_bytes_differs bytes (take size (drop start area)) j (omega arith)
       (rw (length_part area start size e) h) (λ d. n (d ∙ part_at))
 
@@ -171,10 +171,10 @@ module _ (area bytes : List ℕ) (start size j : ℕ) (e : start + size ≤ leng
       rw add-one
       (same_bytes_next bytes (take size (drop start area)) j (omega arith) (rw (length_part area start size e) h) (d ∙ sym part_at))
 
-pub bytes-end
+pub bytes_end
     : (area bytes : List ℕ) (start size j : ℕ) → start + size ≤ length area → length bytes ≡ size → size ≤ j
     → same_bytes (drop j bytes) (drop j (take size (drop start area))) ≡ true
-bytes-end area bytes start size j e l h =
+bytes_end area bytes start size j e l h =
     let b : length bytes ≤ j = omega arith in
     let p : length (take size (drop start area)) ≤ j = rw (length_part area start size e) h in
     rw (drop_of_length-le bytes b, drop_of_length-le (take size (drop start area)) p)

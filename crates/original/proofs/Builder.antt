@@ -241,7 +241,7 @@ module _ (cells area : List ℕ) where
       go : (c : Bool) → cond c (some (state_of (added_from area pos_only steps) (style_after area pos_only steps))) none ≡ some self → leb self.positional_only self.positional ≡ true
       go true f =
           let is : state_of (added_from area pos_only steps) (style_after area pos_only steps) ≡ self = cc in
-          rw (← is) (le-leb (positional_only_count (added_from area pos_only steps)) (positional_count (added_from area pos_only steps)) ((step_counts area).only-within steps))
+          rw (← is) (le-leb (positional_only_count (added_from area pos_only steps)) (positional_count (added_from area pos_only steps)) ((step_counts area).only_within steps))
       go false f = let z : ◌≡◌ {A = ℕ} 0 1 = cc in absurd (omega arith)
 
   -- and `finish` never panics
@@ -253,7 +253,7 @@ module _ (cells area : List ℕ) where
     where
       go : (c : Bool) → length (added_from area pos_only steps) < 4294967296
           → next (cond c (some (state_of (added_from area pos_only steps) (style_after area pos_only steps))) none) finish ≡ cond c (some (finished_of (added_from area pos_only steps))) none
-      go true h = finish_state (added_from area pos_only steps) h (style_after area pos_only steps) ((step_counts area).only-within steps)
+      go true h = finish_state (added_from area pos_only steps) h (style_after area pos_only steps) ((step_counts area).only_within steps)
       go false h = refl
 
   -- the steps of a record that is refused past the first four

@@ -176,6 +176,6 @@ module _ (area cells : List ℕ) (n : ℕ) (en : n ≡ get_or cells 0 0) where
       pub not_named : not d ≡ true → false ≡ is_prepared area cells
       not_named k = whole_of true true false (sym (le-leb n 64 few)) (sym (le-leb (2 + 6 * n) (length cells) long)) (sym (not-true d k) ∙ ed)
 
-      pub is-asked
+      pub is_asked
           : not d ≡ false → {e : Bool} → e ≡ (rows_right area 0 (listed (row_at cells) 0 n) && names_apart [] (listed (param_at area cells) 0 n)) → e ≡ is_prepared area cells
-      is-asked k ee = ee ∙ whole_of true true true (sym (le-leb n 64 few)) (sym (le-leb (2 + 6 * n) (length cells) long)) (sym (not-false d k) ∙ ed)
+      is_asked k ee = ee ∙ whole_of true true true (sym (le-leb n 64 few)) (sym (le-leb (2 + 6 * n) (length cells) long)) (sym (not-false d k) ∙ ed)

@@ -15,7 +15,7 @@ use Rattle.rules.specs.Value.{Value, no_value}
 use Rattle.rules.specs.Listing.{tally, first_from}
 use Rattle.rules.specs.Parameters.{Parameter, pos_or_named, comes_before, act_of, takes_position, positional as rules-positional, positional_only, is_args, is_kwargs, positional_only_count, positional_count, args_index, kwargs_index}
 use Rattle.cells.specs.Listed.{listed}
-use Rattle.cells.proofs.LawsListed.{or_first, length_listed, listed_more, Listed-same, tally_snoc, first-snoc}
+use Rattle.cells.proofs.LawsListed.{or_first, length_listed, listed_more, Listed-same, tally_snoc, first_snoc}
 use Rattle.builder.specs.Params.{style_for, kind_for, parameter_of, parameter_at, parameters_in}
 use Rattle.builder.specs.Spec.{index_of}
 use Rattle.builder.specs.Build.{IsList}
@@ -182,7 +182,7 @@ first_next : (test : Parameter → Bool) (p : ℕ → Parameter) (i : ℕ) (x : 
 first_next test p i x b ex eb =
     or_at_first x b i
     ∙ rw (ex, eb)
-    (sym (ap (first_from test 0) (listed_more p i) ∙ first-snoc test 0 (listed p 0 i) (p i) ∙ ap (or_first (first_from test 0 (listed p 0 i)) (test (p i))) (zero-add (length (listed p 0 i)) ∙ length_listed p 0 i)))
+    (sym (ap (first_from test 0) (listed_more p i) ∙ first_snoc test 0 (listed p 0 i) (p i) ∙ ap (or_first (first_from test 0 (listed p 0 i)) (test (p i))) (zero-add (length (listed p 0 i)) ∙ length_listed p 0 i)))
 
 -- the counts and indices of the first i rows
 pub record Indexed (cells : List ℕ) (i only positional : ℕ) (args kwargs : Index) : Type 0 where
@@ -203,7 +203,7 @@ counted_few : (b : Bool) (count i : ℕ) → count ≤ i → cond b (count + 1) 
 counted_few true count i h = omega arith
 counted_few false count i h = omega arith
 
-pub indexed-next
+pub indexed_next
     : (cells : List ℕ) (i only positional : ℕ) (args kwargs : Index) (o s : ℕ) (x y : Index) {a b k : Bool}
     → Indexed cells i only positional args kwargs
     → a ≡ only_by_position (get_or cells (2 + 6 * i) 0) (get_or cells (2 + 6 * i + 1) 0)
@@ -215,7 +215,7 @@ pub indexed-next
     → y ≡ or_at kwargs k i
     → Indexed cells (i + 1) o s x y
 unfolding positional_only_count positional_count args_index kwargs_index
-indexed-next cells i only positional args kwargs o s x y {a} {b} {k} h ea eo eb es ex ek ey =
+indexed_next cells i only positional args kwargs o s x y {a} {b} {k} h ea eo eb es ex ek ey =
     record {
       only_few = rw eo (counted_few a only i h.only_few);
       few = rw es (counted_few b positional i h.few);
@@ -289,11 +289,11 @@ loaded_none cells xs e =
     }
 
 module _ (cells : List ℕ) (i : ℕ) (codes styles names kinds payloads : List ℕ) (l : Loaded cells i codes styles names kinds payloads) where
-  pub loaded-next
+  pub loaded_next
       : i < 64
       → Loaded cells (i + 1) (set codes i (get_or cells (2 + 6 * i) 0)) (set styles i (get_or cells (2 + 6 * i + 1) 0))
       (set names i (get_or cells (2 + 6 * i + 2) 0)) (set kinds i (get_or cells (2 + 6 * i + 3) 0)) (set payloads i (get_or cells (2 + 6 * i + 4) 0))
-  loaded-next h =
+  loaded_next h =
       record {
         code = column_next (λ j. get_or cells (2 + 6 * j) 0) i codes l.code h;
         style = column_next (λ j. get_or cells (2 + 6 * j + 1) 0) i styles l.style h;
@@ -307,11 +307,11 @@ module _ (cells : List ℕ) (p : Parameters) (l : Loaded cells p.len p.codes p.s
   unfolding parameter_at param_at parameter_of_row
   loaded_at area j h = rw (row_at_cells, l.code.held j h, l.style.held j h, l.name.held j h, l.kind.held j h, l.payload.held j h)
 
-  pub loaded-list
+  pub loaded_list
       : (area : List ℕ) (d : DefParamIndices) → p.len ≡ get_or cells 0 0 → p.len ≤ 64 → IndicesOf (listed (param_at area cells) 0 p.len) d
       → IsList area (record { params = p; indices = d }) (list_in area cells)
   unfolding parameters_in
-  loaded-list area d e few x =
+  loaded_list area d e few x =
       record {
         room = few;
         parameters = Listed-same _ _ 0 p.len (λ j a u. loaded_at area j (omega arith)) ∙ same;

@@ -92,19 +92,19 @@ module _
         }
 
     -- a short name is known by its key
-    pub after-short
+    pub after_short
         : Bytes area → Bytes spec → get_or cells (pair + 1) 0 % 256 ≡ get_or list (2 + 6 * row + 2) 0 % 256 → get_or cells (pair + 1) 0 % 256 ≤ 8
         → {key : ℕ} → key ≡ key_of (bytes_at area (get_or cells (pair + 1) 0)) → get_or list (2 + 6 * row + 5) 0 ≡ key → NamedAfter spec list cells area pair row
-    after-short p q sized few {key} ek e =
+    after_short p q sized few {key} ek e =
         by_bytes
         (key_same area (get_or cells (pair + 1) 0) spec (get_or list (2 + 6 * row + 2) 0) key_inside row_inside p q sized few
         (sym ek ∙ sym e ∙ sym (key_cell list row) ∙ keyed.keys row (omega arith) ∙ ap (λ n. key_of (bytes_at spec n)) (name_cell list row)))
 
     -- a longer one by all its bytes
-    pub after-long
+    pub after_long
         : {same : Bool} → same ≡ same_bytes (part_at area (get_or cells (pair + 1) 0)) (part_at spec (get_or list (2 + 6 * row + 2) 0)) → same ≡ true
         → NamedAfter spec list cells area pair row
-    after-long es t = by_bytes (part_same area (get_or cells (pair + 1) 0) spec (get_or list (2 + 6 * row + 2) 0) key_inside row_inside (sym es ∙ t))
+    after_long es t = by_bytes (part_same area (get_or cells (pair + 1) 0) spec (get_or list (2 + 6 * row + 2) 0) key_inside row_inside (sym es ∙ t))
 
 -- ---- pairs that are named in turn
 
@@ -121,10 +121,10 @@ module _ (spec list cells area : List ℕ) (from count row : ℕ) where
     pub turn_keyed : Keyed spec list (row + left + 1)
     turn_keyed = keyed_below spec list (row + count) (row + left) ready.keyed (omega arith)
 
-    pub turn-next
+    pub turn_next
         : ((k : ℕ) → suc left ≤ k → k < count → NamedAfter spec list cells area (from + 4 * k) (row + k))
         → NamedAfter spec list cells area (from + 4 * left) (row + left) → TurnDone spec list cells area from count row left
-    turn-next done here = record { most = omega arith; named = λ k l u. go k l u (dec_le (suc left) k) }
+    turn_next done here = record { most = omega arith; named = λ k l u. go k l u (dec_le (suc left) k) }
       where
         last : (k : ℕ) → left ≡ k → NamedAfter spec list cells area (from + 4 * k) (row + k)
         last k e = rw (← e) here

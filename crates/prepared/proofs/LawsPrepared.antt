@@ -1,6 +1,6 @@
 -- What preparing a record writes is a prepared list, in this order: the row that a step is laid out as; the rows and the list that are read
 -- back from the cells; the rows of steps that pass are right; so the cells of a record that passes 1 to 7 are a prepared list of what it
--- describes (`prepared_is`, `prepared_list`), and a call ends against them as against the record (`prepared-collects`).
+-- describes (`prepared_is`, `prepared_list`), and a call ends against them as against the record (`prepared_collects`).
 -- That nothing else is one stands in LawsPreparedOnly. Assumes nothing.
 use mathlib.Core.Path.{◌≡◌, refl, sym, ap, ap₂, ◌∙◌}
 use mathlib.Core.Bool.{Bool, true, false, ◌&&◌, false≢true}
@@ -64,11 +64,11 @@ abbrev pub row_for : List ℕ → ℕ → Step → Row
 row_for area style t = record { step = t; style = style; key = key_of (bytes_at area t.name) }
 
 -- the parameter that a step adds under a style is laid out as the step, the style's number and the name's key
-pub rowOf-step
+pub row_of_step
     : (area : List ℕ) (s : Style) (t : Step) → adds_one (act t) ≡ true → uses_right area (act t) t.name t.default ≡ true
     → row_of (record { kind = kind_for (act t); style = s; name = text_in area t.name }) ≡ row_for area (rank s) t
 unfolding row_of text_in act
-rowOf-step area s t a u =
+row_of_step area s t a u =
     ap {B = Row} (λ x. record { step = x; style = rank s; key = key_of (bytes_at area t.name) }) (step_back area t.name t.code t.default a u)
 
 -- ---- what is read back
@@ -107,11 +107,11 @@ kind_back (defaulted v) = refl
 kind_back args = refl
 kind_back kwargs = refl
 
-parameter-back
+parameter_back
     : (area : List ℕ) (k : ParameterKind) (s : Style) (name : ℕ)
     → parameter_of_row area (row_of (record { kind = k; style = s; name = text_in area name })) ≡ record { kind = k; style = s; name = text_in area name }
 unfolding parameter_of_row parameter_of row_of text_in
-parameter-back area k s name =
+parameter_back area k s name =
     ap₂ {C = Parameter} (λ x y. record { kind = x; style = y; name = record { payload = name; bytes = bytes_at area name } }) (kind_back k) (style_for_rank s)
 
 list_back : (area : List ℕ) (s : Style) (ts : List Step) → map (λ q. parameter_of_row area (row_of q)) (added_from area s ts) ≡ added_from area s ts
@@ -120,7 +120,7 @@ list_back area s (t ∷ ts) = go (act t) (list_back area (next_style s (act t)) 
   where
     go : (a : Act) → map (λ q. parameter_of_row area (row_of q)) (added_from area (next_style s a) ts) ≡ added_from area (next_style s a) ts
         → map (λ q. parameter_of_row area (row_of q)) (added area s a t.name ++ added_from area (next_style s a) ts) ≡ added area s a t.name ++ added_from area (next_style s a) ts
-    go (adds k) e = ap₂ {C = List Parameter} (λ q qs. q ∷ qs) (parameter-back area k s t.name) e
+    go (adds k) e = ap₂ {C = List Parameter} (λ q qs. q ∷ qs) (parameter_back area k s t.name) e
     go slash e = e
     go bare_star e = e
     go unknown_code e = e
@@ -162,19 +162,19 @@ module _ (area : List ℕ) (s : Style) (t : Step) where
       rw (a, stands_below s (act t) a m, style_for_rank s, m, n, u) (eq-eqb (key_of (bytes_at area t.name)) (key_of (bytes_at area t.name)) refl)
 
 -- one row more at the front
-rows-cons
+rows_cons
     : (area : List ℕ) (s : Style) (t : Step) (k : ParameterKind) (least : ℕ) (rest : List Row)
     → act t ≡ adds k → least ≤ rank s → may_stand s (act t) ≡ true → step_name area t ≡ true → uses_right area (act t) t.name t.default ≡ true
     → rows_right area (rank (next_style s (adds k))) rest ≡ true
     → rows_right area least (row_of (record { kind = k; style = s; name = text_in area t.name }) ∷ rest) ≡ true
-rows-cons area s t k least rest e h m n u r =
+rows_cons area s t k least rest e h m n u r =
     rw same
     (and_both (leb least (rank s) && row_right area (row_for area (rank s) t)) (rows_right area (rank (next_style (style_for (rank s)) (act t))) rest)
     (and_both (leb least (rank s)) (row_right area (row_for area (rank s) t)) (le-leb least (rank s) h) (row_right_lem area s t (ap adds_one e) m n u))
     (rw (style_for_rank s, e) r))
   where
     same : row_of (record { kind = k; style = s; name = text_in area t.name }) ≡ row_for area (rank s) t
-    same = ap (λ x. row_of (record { kind = kind_for x; style = s; name = text_in area t.name })) (sym e) ∙ rowOf-step area s t (ap adds_one e) u
+    same = ap (λ x. row_of (record { kind = kind_for x; style = s; name = text_in area t.name })) (sym e) ∙ row_of_step area s t (ap adds_one e) u
 
 step_stands : (A : ℕ) (area : List ℕ) (s : Style) (before : List Parameter) (t : Step) → ask_step A area s before t ≡ fine → may_stand s (act t) ≡ true
 unfolding ask_step
@@ -184,15 +184,15 @@ step_stands A area s before t f =
 
 module _ (A : ℕ) (area : List ℕ) where
   -- each row stands under no earlier style than the steps before it lead to
-  rows_right
+  rows_right_lem
       : (s : Style) (before : List Parameter) (ts : List Step) (least : ℕ) → least ≤ rank s
       → ask_steps A area s before ts ≡ fine → all (step_name area) ts ≡ true → defaults_right area ts ≡ true
       → rows_right area least (map row_of (added_from area s ts)) ≡ true
   unfolding defaults_right
-  rows_right s before [] least h f n d = refl
-  rows_right s before (t ∷ ts) least h f n d =
+  rows_right_lem s before [] least h f n d = refl
+  rows_right_lem s before (t ∷ ts) least h f n d =
       go (act t) refl stands
-      (λ l b. rows_right (next_style s (act t)) (before ++ added area s (act t) t.name) ts l b
+      (λ l b. rows_right_lem (next_style s (act t)) (before ++ added area s (act t) t.name) ts l b
       (then_right (ask_step A area s before t) later f) (and_right (step_name area t) (all (step_name area) ts) n) (and_right uses (defaults_right area ts) d))
     where
       later : Answer
@@ -208,7 +208,7 @@ module _ (A : ℕ) (area : List ℕ) where
           → ((l : ℕ) → l ≤ rank (next_style s a) → rows_right area l (map row_of (added_from area (next_style s a) ts)) ≡ true)
           → rows_right area least (map row_of (added area s a t.name ++ added_from area (next_style s a) ts)) ≡ true
       go (adds k) e m ih =
-          rows-cons area s t k least (map row_of (added_from area (next_style s (adds k)) ts)) e h stands
+          rows_cons area s t k least (map row_of (added_from area (next_style s (adds k)) ts)) e h stands
           (and_left (step_name area t) (all (step_name area) ts) n) (and_left uses (defaults_right area ts) d)
           (ih (rank (next_style s (adds k))) (omega arith))
       go slash e m ih = ih least (omega (arith, rank_next s slash m))
@@ -225,7 +225,7 @@ module _ (spec area : List ℕ) (passes : ask_parameters 64 spec area ≡ fine) 
   listed_right : rows_right area 0 (map row_of (list_of spec area)) ≡ true
   unfolding list_of parameters_of names_inside
   listed_right =
-      rows_right 64 area pos_only [] (read_parameters spec).steps 0 (omega arith) (steps_fine 64 spec area passes)
+      rows_right_lem 64 area pos_only [] (read_parameters spec).steps 0 (omega arith) (steps_fine 64 spec area passes)
       (and_right (is_text 1 area (read_parameters spec).function) (all (step_name area) (read_parameters spec).steps) (names_fine 64 spec area passes))
       (defaults_fine 64 spec area passes)
 
@@ -272,11 +272,11 @@ module _ (spec area out : List ℕ) (passes : ask_parameters 64 spec area ≡ fi
         (list_names_apart 64 spec area passes)
 
     -- and a call ends against those cells as it ends against the record
-    pub prepared-collects
+    pub prepared_collects
         : (call_cells call_bytes board : List ℕ)
         → bound_prepared area (over (prepared_from spec area) out) call_cells call_bytes board ≡ collection 64 64 spec area call_cells call_bytes board
     unfolding bound_prepared bound_to collection ask_records
-    prepared-collects call_cells call_bytes board =
+    prepared_collects call_cells call_bytes board =
         rw (
           prepared_is,
           prepared_list spec area out,

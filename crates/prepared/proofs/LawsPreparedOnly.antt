@@ -23,8 +23,8 @@ use Rattle.rules.specs.Collection.{collection}
 use Rattle.rules.proofs.LawsListing.{and_left, and_right, and_both}
 use Rattle.rules.proofs.LawsRecord.{length_write_each, step_cells_wide, read_parameters_encode_parameters}
 use Rattle.prepared.specs.Prepared.{Row, row_width, row_cells, read_row, front_width, prepared_length, prepared_cells, prepared_from, rows_in, parameter_of_row, list_in, adds_one, rows_right, is_prepared, bound_prepared}
-use Rattle.prepared.proofs.LawsPrepared.{length_prepared, prepared_is, prepared-collects}
-use Rattle.prepared.proofs.LawsRowSteps.{rows_back, steps_from, steps_few, Steps-all, steps_add, steps-asked}
+use Rattle.prepared.proofs.LawsPrepared.{length_prepared, prepared_is, prepared_collects}
+use Rattle.prepared.proofs.LawsRowSteps.{rows_back, steps_from, steps_few, Steps-all, steps_add, steps_asked}
 
 -- ---- the cells written again
 
@@ -165,7 +165,7 @@ module _ (area cells : List ℕ) (h : Tests area cells) where
 
   asked : ask_steps 64 area pos_only [] steps ≡ fine
   unfolding list_in
-  asked = steps-asked area pos_only [] rows h.rows (omega (arith, count_rows, h.few)) h.apart
+  asked = steps_asked area pos_only [] rows h.rows (omega (arith, count_rows, h.few)) h.apart
 
   spec_passes : ask_parameters 64 (spec_for cells) area ≡ fine
   unfolding ask_parameters record_for
@@ -208,4 +208,4 @@ module _ (area cells : List ℕ) (p : PreparedBy area cells) where
   pub prepared_bound : (call_cells call_bytes board : List ℕ) → bound_prepared area cells call_cells call_bytes board ≡ collection 64 64 p.spec area call_cells call_bytes board
   prepared_bound call_cells call_bytes board =
       subst (λ c. bound_prepared area c call_cells call_bytes board ≡ collection 64 64 p.spec area call_cells call_bytes board) p.written
-      (prepared-collects p.spec area cells p.passes by_room call_cells call_bytes board)
+      (prepared_collects p.spec area cells p.passes by_room call_cells call_bytes board)

@@ -21,10 +21,10 @@ use Rattle.rules.specs.Passed.{names_apart}
 use Rattle.rules.proofs.LawsListing.{and_left, and_right, and_both, all_append}
 use Rattle.rules.proofs.LawsAnswer.{then_fine}
 use Rattle.builder.specs.Params.{style_for, kind_for, parameter_of}
-use Rattle.builder.proofs.LawsAsk.{askStep-fine}
+use Rattle.builder.proofs.LawsAsk.{ask_step_fine}
 use Rattle.cells.specs.Text.{key_of}
 use Rattle.prepared.specs.Prepared.{Row, row_of, parameter_of_row, adds_one, row_right, rows_right}
-use Rattle.prepared.proofs.LawsPrepared.{rowOf-step, rank_next}
+use Rattle.prepared.proofs.LawsPrepared.{row_of_step, rank_next}
 
 -- ---- a right row
 
@@ -114,7 +114,7 @@ module _ (area : List ℕ) where
   row_back : (r : Row) → RightRow area r → row_of (parameter_of_row area r) ≡ r
   unfolding parameter_of_row parameter_of act
   row_back r h =
-      rowOf-step area (style_for r.style) r.step h.adding h.uses
+      row_of_step area (style_for r.style) r.step h.adding h.uses
       ∙ ap₂ {C = Row} (λ s k. record { step = r.step; style = s; key = k }) (rank_style_for r.style h.low) (sym h.keyed)
 
   pub rows_back : (least : ℕ) (rs : List Row) → rows_right area least rs ≡ true → map row_of (map (parameter_of_row area) rs) ≡ rs
@@ -241,25 +241,25 @@ module _ (area : List ℕ) where
   adds_kind unknown_code e = absurd (false≢true e)
 
   -- the step of a right row is fine where there is room and its name is new
-  row-asked
+  row_asked
       : (before : List Parameter) (r : Row) → RightRow area r → length before < 64
       → (not (nameable (parameter_of_row area r)) || not (known before (parameter_of_row area r).name.bytes)) ≡ true
       → ask_step 64 area (style_for r.style) before r.step ≡ fine
   unfolding nameable parameter_of_row parameter_of text_in act
-  row-asked before r h room new =
-      askStep-fine 64 area (style_for r.style) before r.step (kind_for (act r.step)) (adds_kind (act r.step) h.adding)
+  row_asked before r h room new =
+      ask_step_fine 64 area (style_for r.style) before r.step (kind_for (act r.step)) (adds_kind (act r.step) h.adding)
       (subst (λ a. may_stand (style_for r.style) a ≡ true) (adds_kind (act r.step) h.adding) h.stands) room new
 
-  pub steps-asked
+  pub steps_asked
       : (s : Style) (before : List Parameter) (rs : List Row) → rows_right area (rank s) rs ≡ true → length before + length rs ≤ 64
       → names_apart before (map (parameter_of_row area) rs) ≡ true → ask_steps 64 area s before (steps_from s rs) ≡ fine
-  steps-asked s before [] e few apart = refl
-  steps-asked s before (r ∷ rs) e few apart =
+  steps_asked s before [] e few apart = refl
+  steps_asked s before (r ∷ rs) e few apart =
       marks_asked s t (first_up area (rank s) r rs e) (first_low area (rank s) r rs e) 64 area before (r.step ∷ rest)
       ∙ then_fine (ask_step 64 area t before r.step) (ask_steps 64 area next (before ++ added area t (act r.step) r.step.name) rest)
-      (row-asked before r (first_right area (rank s) r rs e) (omega arith) (and_left new (names_apart (before ++ q ∷ []) (map (parameter_of_row area) rs)) apart))
+      (row_asked before r (first_right area (rank s) r rs e) (omega arith) (and_left new (names_apart (before ++ q ∷ []) (map (parameter_of_row area) rs)) apart))
       ∙ ap (λ a. ask_steps 64 area next (before ++ a) rest) (added_row r (first_right area (rank s) r rs e))
-      ∙ steps-asked next (before ++ q ∷ []) rs (rest_right area (rank s) r rs e) (omega (arith, length-append before (q ∷ [])))
+      ∙ steps_asked next (before ++ q ∷ []) rs (rest_right area (rank s) r rs e) (omega (arith, length-append before (q ∷ [])))
       (and_right new (names_apart (before ++ q ∷ []) (map (parameter_of_row area) rs)) apart)
     where
       t : Style

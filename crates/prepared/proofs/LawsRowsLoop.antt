@@ -131,13 +131,13 @@ module _ {area cells : List ℕ} {n : ℕ} {used : List ℕ} {least i : ℕ} {r 
     unfolding param_at parameter_of_row parameter_of text_in
     twice t eo k = no_names area cells n (apart_twice (param_at area cells) n i now.so_far.apart now.there (nameable_here ∙ t) (sym eo ∙ k))
 
-    pub on-unnamed
+    pub on_unnamed
         : {marked : List ℕ} {after : ℕ}
         → ((v : Value) → stands r.step.code r.style v ≡ true → after ≡ rank (next_style (style_for r.style) (act_of r.step.code v)))
         → named ≡ false
         → marked ≡ used
         → SoFar area cells n marked after (i + 1)
-    on-unnamed ea f em =
+    on_unnamed ea f em =
         on ea (apart_unnamed (param_at area cells) n i now.so_far.apart now.there (nameable_here ∙ f))
         (slot_kept area cells used i now.so_far.marks em (nameable_here ∙ f))
 

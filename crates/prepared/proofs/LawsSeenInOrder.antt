@@ -66,14 +66,14 @@ turn_append (p ∷ ps) qs (u ∷ us) vs e f =
     and_both (names u.name.bytes p) (in_turn (ps ++ qs) (us ++ vs)) (and_left (names u.name.bytes p) (in_turn ps us) e)
     (turn_append ps qs us vs (and_right (names u.name.bytes p) (in_turn ps us) e) f)
 
-turn-listed
+turn_listed
     : (q : ℕ → Parameter) (v : ℕ → Named) (row i n : ℕ) → ((k : ℕ) → k < n → names (v (i + k)).name.bytes (q (row + k)) ≡ true)
     → in_turn (listed q row n) (listed v i n) ≡ true
-turn-listed q v row i zero each = refl
-turn-listed q v row i (suc n) each =
+turn_listed q v row i zero each = refl
+turn_listed q v row i (suc n) each =
     and_both (names (v i).name.bytes (q row)) (in_turn (listed q (suc row) n) (listed v (suc i) n))
     (rw (add-zero i, add-zero row) at (each 0 (omega arith)))
-    (turn-listed q v (suc row) (suc i) n (λ k l. rw (next i k, next row k) at (each (suc k) (omega arith))))
+    (turn_listed q v (suc row) (suc i) n (λ k l. rw (next i k, next row k) at (each (suc k) (omega arith))))
 
 -- ---- the first rows of a prepared list
 
@@ -241,8 +241,8 @@ module _ (spec list cells area : List ℕ) (h : Head) (len : ℕ) (ready : Order
       named_hold =
           ap₂ in_turn (ap (λ n. drop n (list_in spec list)) (positionals_length area cells h ready.read ten) ∙ rest_parts) N-parts
           ∙ turn_append (listed (param_at spec list) values h.n) (listed (param_at spec list) (values + h.n) h.d) (listed written_at 0 h.n) (listed entry_at 0 h.d)
-          (turn-listed (param_at spec list) written_at values 0 h.n written_named)
-          (turn-listed (param_at spec list) entry_at (values + h.n) 0 h.d entry_named)
+          (turn_listed (param_at spec list) written_at values 0 h.n written_named)
+          (turn_listed (param_at spec list) entry_at (values + h.n) 0 h.d entry_named)
 
       few_hold : length (positionals_of c) ≤ positional_count (list_in spec list)
       few_hold =

@@ -83,7 +83,7 @@ last_style (suc zero) h = absurd (omega arith)
 last_style (suc (suc zero)) h = absurd (omega arith)
 last_style (suc (suc (suc n))) h = refl
 
-pub row-for
+pub row_for
     : (area : List ℕ) (code style name : ℕ) (v : Value) (c s k : ℕ) (d : Value)
     → c ≡ code_as code
     → s ≡ rank (style_for style)
@@ -91,7 +91,7 @@ pub row-for
     → k ≡ key_of (bytes_at area name)
     → record { step = record { code = c; name = name; default = d }; style = s; key = k } ≡ row_of (parameter_of area code style name v)
 unfolding row_of parameter_of text_in code_as default_as
-row-for area code style name v c s k d ec es ed ek = rw (ec, es, ed, ek, code_any code no_value v)
+row_for area code style name v c s k d ec es ed ek = rw (ec, es, ed, ek, code_any code no_value v)
 
 -- ---- its cells
 
@@ -99,14 +99,14 @@ pub row_cells_six : (r : Row) → length (row_cells r) ≡ 6
 unfolding row_cells
 row_cells_six r = refl
 
-pub row-stored
+pub row_stored
     : (out one two three : List ℕ) (at : ℕ) (r : Row) → at + 6 ≤ length out
     → one ≡ stored out at (r.step.code ∷ r.style ∷ [])
     → two ≡ stored one (at + 2) (r.step.name ∷ r.step.default.kind ∷ [])
     → three ≡ stored two (at + 4) (r.step.default.payload ∷ r.key ∷ [])
     → three ≡ stored out at (row_cells r)
 unfolding row_cells
-row-stored out one two three at r h e1 e2 e3 =
+row_stored out one two three at r h e1 e2 e3 =
     e3
     ∙ ap (λ l. stored l (at + 4) (r.step.default.payload ∷ r.key ∷ []))
     (e2
@@ -126,13 +126,13 @@ pub record Writing (area : List ℕ) (p : Parameters) (before after : List ℕ) 
 pub writing_none : (area : List ℕ) (p : Parameters) (before : List ℕ) → 2 + 6 * p.len ≤ length before → Writing area p before before 0
 writing_none area p before h = record { inside = omega arith; room = h; same = refl; cells = sym (stored_none before 2 (omega arith)) }
 
-pub writing-next
+pub writing_next
     : (area : List ℕ) (p : Parameters) (before after next : List ℕ) (i : ℕ) (r : Row) → Writing area p before after i → i < p.len
     → r ≡ row_of (parameter_at area p i)
     → length next ≡ length after
     → next ≡ stored after (2 + 6 * i) (row_cells r)
     → Writing area p before next (i + 1)
-writing-next area p before after next i r w h er el en =
+writing_next area p before after next i r w h er el en =
     record {
       inside = omega arith;
       room = w.room;
@@ -156,11 +156,11 @@ module _ (area : List ℕ) (p : Parameters) where
   rows_length : length (write_each row_cells rows) ≡ 6 * p.len
   rows_length = length_write_each 6 (λ cells. row_of (parameter_at area p 0)) row_cells row_cells_six rows ∙ ap (λ n. 6 * n) (length_listed (λ k. row_of (parameter_at area p k)) 0 p.len)
 
-  pub writing-end
+  pub writing_end
       : (function : ℕ) (out before after : List ℕ) (i : ℕ) → Writing area p before after i → p.len ≤ i → 2 + 6 * p.len ≤ length out
       → before ≡ stored out 0 (p.len ∷ function ∷ [])
       → after ≡ over (prepared_cells function (parameters_in area p)) out
-  writing-end function out before after i w h room e =
+  writing_end function out before after i w h room e =
       let whole : i ≡ p.len = omega (arith, w.inside) in
       rw whole at w.cells
       ∙ ap (λ l. stored l 2 (write_each row_cells rows)) e
@@ -182,12 +182,12 @@ module _ (spec_cells area out : List ℕ) where
   unfolding prepared_length front_width row_width
   preparing_short e h = record { answer = rw (e, lt-leb 386 (length out) h); cells = rw (e, lt-leb 386 (length out) h) }
 
-  pub preparing-written
+  pub preparing_written
       : (after : List ℕ) (p : Parameters) → ask_parameters 64 spec_cells area ≡ fine → 386 ≤ length out → parameters_in area p ≡ list_of spec_cells area
       → after ≡ over (prepared_cells (get_or spec_cells 0 0) (parameters_in area p)) out
       → Preparing spec_cells area out after (Written (2 + 6 * p.len))
   unfolding prepared_from prepared_length front_width row_width
-  preparing-written after p e h ep ea =
+  preparing_written after p e h ep ea =
       record {
         answer = rw (e, le-leb 386 (length out) h, ← ep, count);
         cells = rw (e, le-leb 386 (length out) h, ← ep) ea;

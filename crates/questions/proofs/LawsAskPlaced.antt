@@ -107,10 +107,10 @@ module _ (spec : List ℕ) (l : ParametersSpec) (list : Prepared spec l) (cells 
       ∙ star_asked (index_of l.indices.args) (star_remainder qs P) (h.p + h.s) l.indices.num_positional (star_length spec l list cells area P N sources rest kept next upto r few h values long))
 
   -- 24, the first
-  unknown-asked
+  unknown_asked
       : ask_named_remainder (has_kwargs qs) (named_remainder qs N)
       ≡ cond (lost_to kept 0 (index_of l.indices.kwargs)) (refuse 24 (count_and_name kept (place_of call_area (pair_at cells (get_or rest 0 0)).payload))) fine
-  unknown-asked =
+  unknown_asked =
       ap (λ b. ask_named_remainder b (named_remainder qs N)) (kwargs_found qs ∙ ap is_some (sym list.is_list.kwargs))
       ∙ named_asked (index_of l.indices.kwargs) (named_remainder qs N) kept (pair_at cells (get_or rest 0 0)).payload (remainder_length qs cells area N sources rest kept r few) first_name
 
@@ -123,4 +123,4 @@ module _ (spec : List ℕ) (l : ParametersSpec) (list : Prepared spec l) (cells 
       (missing_asked spec l list (first_missing l.params.codes sources next (l.params.len - next)) kept (surplus_as l.indices h kept) (ask_star_remainder (has_args qs) (star_remainder qs P)) surplus_asked
       ∙ ap (λ a. a then ask_star_remainder (has_args qs) (star_remainder qs P))
       (sym (required_found spec l list cells area P N sources rest kept next upto r h values (length (star_remainder qs P)) (length (named_remainder qs N)))))
-      ∙ ap (λ a. a then ask_required qs (place qs P N) then ask_star_remainder (has_args qs) (star_remainder qs P)) (sym unknown-asked)
+      ∙ ap (λ a. a then ask_required qs (place qs P N) then ask_star_remainder (has_args qs) (star_remainder qs P)) (sym unknown_asked)

@@ -129,5 +129,5 @@ module _ (area : List ℕ) where
       record {
         both_rise = both_rise;
         only_stays = only_stays;
-        only-within = λ ts. omega (arith, steps_within [] pos_only ts nothing_within);
+        only_within = λ ts. omega (arith, steps_within [] pos_only ts nothing_within);
       }

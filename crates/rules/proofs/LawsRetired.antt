@@ -39,7 +39,7 @@ needless : (A : ℕ) (cells area : List ℕ)
 unfolding list_of parameters_of
 needless A cells area =
     ap (λ b. ask_parameters A cells area then ask 8 b)
-    (le-leb (positional_only_count (list_of cells area)) (positional_count (list_of cells area)) ((step_counts area).only-within (read_parameters cells).steps))
+    (le-leb (positional_only_count (list_of cells area)) (positional_count (list_of cells area)) ((step_counts area).only_within (read_parameters cells).steps))
     ∙ then_passed (ask_parameters A cells area) 8
 
 -- ---- chains of questions

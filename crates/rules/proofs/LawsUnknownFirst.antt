@@ -129,11 +129,11 @@ module _ (A B : ℕ) (spec_cells spec_bytes call_cells call_bytes board : List �
       (taken_apart (ask_required qs (place qs (positionals_of c) (named_of c)) then ask_star_remainder (has_args qs) (star_remainder qs (positionals_of c)) then unknown)
       ∙ ap (λ a. first then a) (then_assoc (ask_required qs (place qs (positionals_of c) (named_of c))) (ask_star_remainder (has_args qs) (star_remainder qs (positionals_of c))) unknown))
 
-  both-orders
+  both_orders
       : Reordered (hid (has_kwargs qs) (named_remainder qs (named_of c)) (collection_missing_first A B spec_cells spec_bytes call_cells call_bytes board)) (named_remainder qs (named_of c))
       (collection A B spec_cells spec_bytes call_cells call_bytes board) (collection_missing_first A B spec_cells spec_bytes call_cells call_bytes board)
-  both-orders =
+  both_orders =
       rw (now_is, before_is) (behind qs (positionals_of c) (named_of c) board (has_kwargs qs) (named_remainder qs (named_of c)) first late first_in (late_in qs (positionals_of c) (named_of c)))
 
   pub unknown_first : UnknownFirst A B spec_cells spec_bytes call_cells call_bytes board
-  unknown_first = record { differs = both-orders.differs; told = both-orders.told; stays = both-orders.stays }
+  unknown_first = record { differs = both_orders.differs; told = both_orders.told; stays = both_orders.stays }

@@ -17,6 +17,6 @@ pub record StepCounts (area : List ℕ) : Type 0 where
       → comes_before pos_only s ≡ true
       → positional_only_count (before ++ added_from area s ts) ≡ positional_only_count before
   -- so no list of steps, from the first style on, has more positional-only parameters than positional ones
-  pub only-within
+  pub only_within
       : (ts : List Step)
       → positional_only_count (added_from area pos_only ts) ≤ positional_count (added_from area pos_only ts)

@@ -91,22 +91,22 @@ name_length spec call (ExtraNamedArg n name) = part_length call name
 abbrev pub name_shown : List ℕ
 name_shown = 1 ∷ 2 ∷ 3 ∷ 4 ∷ 5 ∷ 6 ∷ 7 ∷ 8 ∷ 9 ∷ 11 ∷ []
 
-pub refusal-shown
+pub refusal_shown
     : (spec call : List ℕ) (p : Parameters) (board : List ℕ) (r : Collected)
     → OneOf name_shown (tag_of the_type r)
     → refused_shown spec call r ≡ outcome_shown spec call p board r
-refusal-shown spec call p board (Accepted c) h = absurd (miss name_shown 0 tt h)
-refusal-shown spec call p board (Record n) h = refl
-refusal-shown spec call p board ArgsArrayIsNotIterable h = refl
-refusal-shown spec call p board (RepeatedParameter name) h = refl
-refusal-shown spec call p board KwArgsIsNotDict h = refl
-refusal-shown spec call p board ArgsValueIsNotString h = refl
-refusal-shown spec call p board (RepeatedArg name) h = refl
-refusal-shown spec call p board (MissingPositionalOnly name) h = refl
-refusal-shown spec call p board (Missing name) h = refl
-refusal-shown spec call p board (MissingNamedOnly name) h = refl
-refusal-shown spec call p board (ExtraPositionalArg n) h = absurd (miss name_shown 10 tt h)
-refusal-shown spec call p board (ExtraNamedArg n name) h = refl
+refusal_shown spec call p board (Accepted c) h = absurd (miss name_shown 0 tt h)
+refusal_shown spec call p board (Record n) h = refl
+refusal_shown spec call p board ArgsArrayIsNotIterable h = refl
+refusal_shown spec call p board (RepeatedParameter name) h = refl
+refusal_shown spec call p board KwArgsIsNotDict h = refl
+refusal_shown spec call p board ArgsValueIsNotString h = refl
+refusal_shown spec call p board (RepeatedArg name) h = refl
+refusal_shown spec call p board (MissingPositionalOnly name) h = refl
+refusal_shown spec call p board (Missing name) h = refl
+refusal_shown spec call p board (MissingNamedOnly name) h = refl
+refusal_shown spec call p board (ExtraPositionalArg n) h = absurd (miss name_shown 10 tt h)
+refusal_shown spec call p board (ExtraNamedArg n name) h = refl
 
 -- ---- an accepted call's text, put part by part
 

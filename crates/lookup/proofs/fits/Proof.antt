@@ -6,7 +6,7 @@ use lib.ListN.{get_or}
 use borrow.Author.Tests.{not-false}
 use borrow.Author.Rules.{rules}
 use Rattle.lookup.specs.Lookup.{fits_at}
-use Rattle.lookup.proofs.LawsFind.{fits-short}
+use Rattle.lookup.proofs.LawsFind.{fits_short}
 use Rattle.lookup.proofs.fits.Statement.{statement}
 use Rattle.lookup.proofs.fits.Tie as tie
 
@@ -24,7 +24,7 @@ returns-3 c e =
     let within = named.before.before.before in
     let a = within.before.before.before.before.args in (
       omega (arith, within.if1.false, within.before.held.ensures),
-      fits-short a.area.now (get_or a.codes.now a.at 0) (get_or a.styles.now a.at 0) (get_or a.names.now a.at 0) a.call.now a.payload (sym named.nameable.ensures ∙ not-false _ tested.if2.false) (c.short-same.ensures e),
+      fits_short a.area.now (get_or a.codes.now a.at 0) (get_or a.styles.now a.at 0) (get_or a.names.now a.at 0) a.call.now a.payload (sym named.nameable.ensures ∙ not-false _ tested.if2.false) (c.short-same.ensures e),
     )
 
 pub fits-spec : {M : Type 1} → statement M

@@ -10,7 +10,7 @@ use borrow.Author.Tests.{not-true, not-false}
 use borrow.Author.Rules.{rules}
 use Rattle.rules.specs.Text.{same_bytes}
 use Rattle.lookup.specs.Lookup.{fits, fits_at, first_at}
-use Rattle.lookup.proofs.LawsFind.{first_at_hit, first_at_miss, first_at_end, fits_style, fits_start, fits_end, fits_size, fits_bytes, bytes-differ, bytes_next, bytes-end}
+use Rattle.lookup.proofs.LawsFind.{first_at_hit, first_at_miss, first_at_end, fits_style, fits_start, fits_end, fits_size, fits_bytes, bytes_differ, bytes_next, bytes_end}
 use Rattle.lookup.proofs.search.Statement.{statement}
 use Rattle.lookup.proofs.search.Tie as tie
 
@@ -96,7 +96,7 @@ candidates-again-5 c =
       search rules,
       missed c.before.before.before.before.before.before.before.before.before.before.before.before.before.before (fits_bytes a.area.now a.name.now (get_or a.codes.now i 0) (get_or a.styles.now i 0) (get_or a.names.now i 0) (sym c.before.before.before.before.before.before.before.before.before.nameable.ensures ∙ not-false _ c.before.before.before.before.before.before.before.before.if2.false) c.before.before.before.before.before.before.if3.false c.before.before.before.before.before.if4.false
           ∙ c.before.before.before.before.loop.invariant.1
-          ∙ bytes-differ a.area.now a.name.now (get_or a.names.now i 0 / 256) (get_or a.names.now i 0 % 256) c.before.before.before.before.loop.j c.before.before.before.before.before.if4.false c.before.before.before.before.before.before.before.before.before.before.before.before.if1.false c.before.before.before.loop-test.true c.if5.true),
+          ∙ bytes_differ a.area.now a.name.now (get_or a.names.now i 0 / 256) (get_or a.names.now i 0 % 256) c.before.before.before.before.loop.j c.before.before.before.before.before.if4.false c.before.before.before.before.before.before.before.before.before.before.before.before.if1.false c.before.before.before.loop-test.true c.if5.true),
     )
 
 loop-again : tie.Need-loop-preserved invariant_loop decreases_loop invariant_candidates decreases_candidates
@@ -115,7 +115,7 @@ returns c =
     ∙ first_at_hit (fits_at a.area.now a.codes.now a.styles.now a.names.now a.name.now) i a.to c.before.before.before.before.before.before.before.before.before.before.before.candidates-test.true
     (fits_bytes a.area.now a.name.now (get_or a.codes.now i 0) (get_or a.styles.now i 0) (get_or a.names.now i 0) (sym c.before.before.before.before.before.before.nameable.ensures ∙ not-false _ c.before.before.before.before.before.if2.false) c.before.before.before.if3.false c.before.before.if4.false
     ∙ c.before.loop.invariant.1
-    ∙ bytes-end a.area.now a.name.now (get_or a.names.now i 0 / 256) (get_or a.names.now i 0 % 256) c.before.loop.j c.before.before.if4.false c.before.before.before.before.before.before.before.before.before.if1.false c.loop-test.false))
+    ∙ bytes_end a.area.now a.name.now (get_or a.names.now i 0 / 256) (get_or a.names.now i 0 % 256) c.before.loop.j c.before.before.if4.false c.before.before.before.before.before.before.before.before.before.if1.false c.loop-test.false))
 
 returns-2 : tie.Need-returns-2 invariant_loop decreases_loop invariant_candidates decreases_candidates
 returns-2 c =

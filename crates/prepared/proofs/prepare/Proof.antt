@@ -8,7 +8,7 @@ use Rattle.cells.specs.Answer.{answer_of}
 use Rattle.builder.specs.Params.{parameters_in}
 use Rattle.findings.proofs.LawsPrepared.{built_fine, built_list}
 use Rattle.prepared.specs.Prepared.{prepared_cells}
-use Rattle.prepared.proofs.LawsWritten.{preparing_refused, preparing_short, preparing-written}
+use Rattle.prepared.proofs.LawsWritten.{preparing_refused, preparing_short, preparing_written}
 use Rattle.prepared.proofs.prepare.Statement.{statement}
 use Rattle.prepared.proofs.prepare.Tie as tie
 
@@ -50,7 +50,7 @@ returns-3 c =
     let a = built.before.before.before.before.args in
     let p = built.build.result.list.params in
     let e = told.enum_told.given.1 in
-    preparing-written a.spec-cells.now a.spec.now a.out.now _ p
+    preparing_written a.spec-cells.now a.spec.now a.out.now _ p
     (built_fine a.spec-cells.now a.spec.now built.build.result built.build.ensures e) long.if1.false
     (built_list a.spec-cells.now a.spec.now built.build.result built.build.ensures e)
     (written.write-list.ensures

@@ -3,7 +3,7 @@
 use native.Mathlib.Omega.{arith}
 use Rattle.rules.specs.ParameterRecord.{step_count, step_width}
 use Rattle.builder.specs.Params.{step_of}
-use Rattle.builder.proofs.LawsRecord.{stepAt-cells}
+use Rattle.builder.proofs.LawsRecord.{step_at_cells}
 use Rattle.builder.proofs.record.step_at.Statement.{statement}
 use Rattle.builder.proofs.record.step_at.Tie as tie
 
@@ -61,7 +61,7 @@ shared-slice-read-t18 c = omega arith
 
 returns : tie.Need-returns
 unfolding step_of
-returns c = rw stepAt-cells
+returns c = rw step_at_cells
 
 pub step-at-spec : {M : Type 1} → statement M
 step-at-spec = tie.close (tie.spec mul_at add_at mul-t4 shared-slice-read-t6 add-t7 mul-t8 shared-slice-read-t10 add-t11 mul-t12 shared-slice-read-t14 add-t15 mul-t16 shared-slice-read-t18 returns)

@@ -2,7 +2,7 @@
 use native.Mathlib.Omega.{arith}
 use lib.ListN.{length-drop}
 use borrow.Author.Rules.{rules}
-use Rattle.cells.proofs.LawsWord.{shifts-same}
+use Rattle.cells.proofs.LawsWord.{shifts_same}
 use Rattle.cells.proofs.key.same_bytes.Statement.{statement}
 use Rattle.cells.proofs.key.same_bytes.Tie as tie
 
@@ -11,7 +11,7 @@ returns c =
     let first = c.before in
     let start = first.before.before.before in
     let a = start.args in
-    shifts-same _ _ _ _ first.word_at.ensures c.word-at2.ensures
+    shifts_same _ _ _ _ first.word_at.ensures c.word-at2.ensures
     (rw (length-drop a.at a.a.now) (omega (arith, start.requires.0)))
     (rw (length-drop a.from a.b.now) (omega (arith, start.requires.1)))
     a.len start.requires.3

@@ -2,7 +2,7 @@
 -- Assumes nothing.
 use native.Mathlib.Omega.{arith}
 use borrow.Author.Rules.{rules}
-use Rattle.prepared.proofs.LawsCheck.{not_few, not_long, not_named, is-asked}
+use Rattle.prepared.proofs.LawsCheck.{not_few, not_long, not_named, is_asked}
 use Rattle.prepared.proofs.check.is_prepared.Statement.{statement}
 use Rattle.prepared.proofs.check.is_prepared.Tie as tie
 
@@ -33,7 +33,7 @@ returns-4 c =
     let long = named.before.before in
     let read = long.before.before in
     let a = read.before.before.before.args in
-    is-asked a.area.now a.cells.now read.cell.result read.cell.ensures long.before.if1.false long.if2.false named.is_name.ensures
+    is_asked a.area.now a.cells.now read.cell.result read.cell.ensures long.before.if1.false long.if2.false named.is_name.ensures
     c.before.if3.false c.rows_right.ensures
 
 pub is-prepared-spec : {M : Type 1} → statement M

@@ -6,7 +6,7 @@ use mathlib.Core.Logic.{⊎_elim}
 use Prim.Native.Nat.{◌-◌}
 use borrow.Author.Rules.{rules}
 use Rattle.prepared.specs.Rows.{row_in}
-use Rattle.prepared.proofs.LawsRowsLoop.{asked, SoFar, Right, so_far_none, all_asked, too_early, row_wrong, row_right_lem, keyed_here, style_here, slot_within, slot_asked, twice, on-unnamed, on_unknown, on_new}
+use Rattle.prepared.proofs.LawsRowsLoop.{asked, SoFar, Right, so_far_none, all_asked, too_early, row_wrong, row_right_lem, keyed_here, style_here, slot_within, slot_asked, twice, on_unnamed, on_unknown, on_new}
 use Rattle.prepared.proofs.check.rows_right.Statement.{statement}
 use Rattle.prepared.proofs.check.rows_right.Tie as tie
 
@@ -89,7 +89,7 @@ loop-again c =
     (λ v. on_unknown here c.style-after.ensures w.1.ensures w.3 v.1.ensures v.2.left)
     (λ v. on_new here c.style-after.ensures w.1.ensures w.3 v.left)
     w.2.came)
-    (λ w. on-unnamed here told.may-be-named.ensures c.style-after.ensures w.0.left w.1)
+    (λ w. on_unnamed here told.may-be-named.ensures c.style-after.ensures w.0.left w.1)
     c.before.if3.branch
 
 returns-4 : tie.Need-returns-4 invariant_loop decreases_loop

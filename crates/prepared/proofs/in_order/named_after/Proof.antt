@@ -8,7 +8,7 @@ use borrow.Author.Rules.{rules}
 use borrow.Author.Tests.{not-false}
 use lib.ListN.{get_or}
 use Rattle.builder.specs.Params.{may_be_named}
-use Rattle.prepared.proofs.LawsNamedAfter.{after-short, after-long}
+use Rattle.prepared.proofs.LawsNamedAfter.{after_short, after_long}
 use Rattle.prepared.proofs.in_order.named_after.Statement.{statement}
 use Rattle.prepared.proofs.in_order.named_after.Tie as tie
 
@@ -37,7 +37,7 @@ returns-5 c =
     let known = text.before.before in
     let start = known.before.before.before.before in
     let a = start.args in
-    λ e. after-short a.spec.now a.list.now a.cells.now a.area.now a.pair a.row start.requires.0 start.requires.3 text.if1.false (may named)
+    λ e. after_short a.spec.now a.list.now a.cells.now a.area.now a.pair a.row start.requires.0 start.requires.3 text.if1.false (may named)
     (λ j. omega (arith, known.shared-slice-known4.given j)) (λ j. omega (arith, known.before.before.shared-slice-known2.given j))
     sized.if2.false c.if5.true keyed.key_of.ensures c.before.if4.false
 
@@ -47,7 +47,7 @@ returns-6 c =
     let text = named.before.before.before.before.before.before.before in
     let start = text.before.before.before.before.before.before in
     let a = start.args in
-    λ e. after-long a.spec.now a.list.now a.cells.now a.area.now a.pair a.row start.requires.0 start.requires.3 text.if1.false (may named) c.same_text.ensures e
+    λ e. after_long a.spec.now a.list.now a.cells.now a.area.now a.pair a.row start.requires.0 start.requires.3 text.if1.false (may named) c.same_text.ensures e
 
 pub named-after-spec : {M : Type 1} → statement M
 named-after-spec = tie.close (tie.spec (λ c. search rules) (λ c. search rules) returns (λ c. search rules) (λ c. search rules) (λ c. search rules) (λ c. search rules) (λ c. search rules) (λ c. search rules) (λ c. search rules) (λ c. search rules) returns-2 (λ c. search rules) (λ c. search rules) (λ c. search rules) (λ c. search rules) (λ c. search rules) (λ c κs. search rules) returns-3 (λ c. search rules) (λ c. search rules) (λ c. search rules) (λ c κs. search rules) returns-4 returns-5 (λ c κs. search rules) returns-6)

@@ -5,7 +5,7 @@ use Prim.Native.Nat.{◌-◌, ◌<◌}
 use native.Mathlib.Omega.{arith}
 use borrow.Author.Rules.{rules}
 use borrow.Author.Tests.{not-false}
-use Rattle.prepared.proofs.LawsNamedAfter.{TurnDone, turn_start, turn_keyed, turn-next}
+use Rattle.prepared.proofs.LawsNamedAfter.{TurnDone, turn_start, turn_keyed, turn_next}
 use Rattle.prepared.proofs.in_order.named_in_turn.Statement.{statement}
 use Rattle.prepared.proofs.in_order.named_in_turn.Tie as tie
 
@@ -56,7 +56,7 @@ loop-again c =
     let at = inside.before.loop in
     let start = inside.before.before.before.before.before.before in
     let a = start.args in
-    turn-next a.spec.now a.list.now a.cells.now a.area.now a.from a.count a.row start.requires (at.left - 1) (less inside)
+    turn_next a.spec.now a.list.now a.cells.now a.area.now a.from a.count a.row start.requires (at.left - 1) (less inside)
     (λ k l u. at.invariant.named k (omega (arith, inside.loop-test.true)) u)
     (asked.named-after.ensures (not-false asked.named-after.result c.if1.false))
 

@@ -6,7 +6,7 @@ use Prim.Native.Nat.{◌+◌, ◌*◌, ◌≤◌, ◌-◌}
 use native.Mathlib.Omega.{arith}
 use lib.ListN.{get_or}
 use borrow.Author.Rules.{rules}
-use Rattle.prepared.proofs.LawsLoad.{Indexed, indexed_none, indexed-next, counts_plain, counts_rest, neither_args, neither_kwargs}
+use Rattle.prepared.proofs.LawsLoad.{Indexed, indexed_none, indexed_next, counts_plain, counts_rest, neither_args, neither_kwargs}
 use Rattle.prepared.proofs.load.indices_in.Statement.{statement}
 use Rattle.prepared.proofs.load.indices_in.Tie as tie
 
@@ -35,9 +35,9 @@ loop-again c =
       search rules,
       ⊎_elim
           (λ w. let uncounted = counts_rest code style rest.takes-rest.ensures w.0.taken in
-          indexed-next cells at.i at.only at.positional at.args at.kwargs _ _ _ _ at.invariant.1 uncounted.0 w.4 uncounted.1 w.5 (w.6 ∙ w.1.ensures) w.2.ensures (w.7 ∙ w.3.ensures))
+          indexed_next cells at.i at.only at.positional at.args at.kwargs _ _ _ _ at.invariant.1 uncounted.0 w.4 uncounted.1 w.5 (w.6 ∙ w.1.ensures) w.2.ensures (w.7 ∙ w.3.ensures))
           (λ w. let counted = counts_plain code style rest.takes-rest.ensures w.0.left in
-          indexed-next cells at.i at.only at.positional at.args at.kwargs _ _ _ _ at.invariant.1 counted.0 (w.3 ∙ w.1.ensures) counted.1 (w.4 ∙ w.2.ensures)
+          indexed_next cells at.i at.only at.positional at.args at.kwargs _ _ _ _ at.invariant.1 counted.0 (w.3 ∙ w.1.ensures) counted.1 (w.4 ∙ w.2.ensures)
           (neither_args code at.args _ at.i rest.takes-rest.ensures w.0.left w.5) refl
           (neither_kwargs code at.kwargs _ at.i rest.takes-rest.ensures w.0.left w.6))
           c.if1.branch,

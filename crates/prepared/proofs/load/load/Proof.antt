@@ -4,7 +4,7 @@ use mathlib.Core.Path.{◌≡◌, refl}
 use Prim.Native.Nat.{◌≤◌, ◌-◌}
 use native.Mathlib.Omega.{arith}
 use borrow.Author.Rules.{rules}
-use Rattle.prepared.proofs.LawsLoad.{Loaded, loaded_none, loaded-next, loaded-list}
+use Rattle.prepared.proofs.LawsLoad.{Loaded, loaded_none, loaded_next, loaded_list}
 use Rattle.prepared.proofs.load.load.Statement.{statement}
 use Rattle.prepared.proofs.load.load.Tie as tie
 
@@ -27,7 +27,7 @@ cast-params-2 : tie.Need-overflow-cast-params-2 invariant_loop decreases_loop
 cast-params-2 c = omega (arith, c.before.before.before.before.before.requires.1.style c.before.before.before.loop.i c.before.before.loop-test.true)
 
 loop-again : tie.Need-loop-preserved invariant_loop decreases_loop
-loop-again c = let at = c.before.before.before.before.before.before.loop in (search rules, at.invariant.1, loaded-next _ _ _ _ _ _ _ at.invariant.2 (omega arith))
+loop-again c = let at = c.before.before.before.before.before.before.loop in (search rules, at.invariant.1, loaded_next _ _ _ _ _ _ _ at.invariant.2 (omega arith))
 
 returns : tie.Need-returns invariant_loop decreases_loop
 returns c =
@@ -38,7 +38,7 @@ returns c =
     let e : at.i ≡ p.len = omega (arith, at.invariant.0, at.invariant.1, c.loop-test.false) in
     record {
       len = at.invariant.1;
-      list = λ area d x. loaded-list cells p (rw e at at.invariant.2) area d at.invariant.1 (omega (arith, at.invariant.1, start.requires.0.few)) (rw at.invariant.1 x);
+      list = λ area d x. loaded_list cells p (rw e at at.invariant.2) area d at.invariant.1 (omega (arith, at.invariant.1, start.requires.0.few)) (rw at.invariant.1 x);
     }
 
 pub load_spec : {M : Type 1} → statement M

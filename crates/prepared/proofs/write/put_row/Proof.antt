@@ -7,7 +7,7 @@ use Rattle.rules.specs.Value.{value_cells}
 use Rattle.cells.specs.Out.{stored}
 use Rattle.cells.specs.Value.{pair_of}
 use Rattle.prepared.specs.Rows.{row_in}
-use Rattle.prepared.proofs.LawsWritten.{row-stored}
+use Rattle.prepared.proofs.LawsWritten.{row_stored}
 use Rattle.prepared.proofs.write.put_row.Statement.{statement}
 use Rattle.prepared.proofs.write.put_row.Tie as tie
 
@@ -19,7 +19,7 @@ returns c =
     let first = second.before.before.before.before.before in
     let start = first.before.before.before.before in
     let a = start.args in
-    row-stored a.out.now first.put.new.0 second.put2.new.0 third.put3.new.0 a.at (row_in a.row) start.requires
+    row_stored a.out.now first.put.new.0 second.put2.new.0 third.put3.new.0 a.at (row_in a.row) start.requires
     (first.put.ensures ∙ ap (λ p. stored a.out.now a.at (value_cells (pair_of p))) first.before.new.ensures)
     (second.put2.ensures ∙ ap (λ p. stored first.put.new.0 (a.at + 2) (value_cells (pair_of p))) second.before.new2.ensures)
     (third.put3.ensures ∙ ap (λ p. stored second.put2.new.0 (a.at + 4) (value_cells (pair_of p))) third.before.new3.ensures)

@@ -11,7 +11,7 @@ use Rattle.cells.specs.Value.{pair_of}
 use Rattle.builder.specs.Params.{parameter_at, parameter_of}
 use Rattle.prepared.specs.Prepared.{row_of}
 use Rattle.prepared.specs.Rows.{row_in}
-use Rattle.prepared.proofs.LawsWritten.{Writing, writing_none, writing-next, writing-end}
+use Rattle.prepared.proofs.LawsWritten.{Writing, writing_none, writing_next, writing_end}
 use Rattle.prepared.proofs.write.write_list.Statement.{statement}
 use Rattle.prepared.proofs.write.write_list.Tie as tie
 
@@ -38,8 +38,8 @@ loop-again c =
     let a = c.before.before.before.before.before.before.before.before.before.before.before.before.before.before.before.before.before.before.before.before.args in
     let at = c.before.before.before.before.before.before.before.before.before.before.before.before.loop in
     let p = a.t1 in
-    writing-next a.area.now p _ at.out _ at.i (row_in c.before.before.before.before.row-for.result) at.invariant c.before.before.before.before.before.before.before.before.before.before.before.loop-test.true
-    (c.before.before.before.before.row-for.ensures
+    writing_next a.area.now p _ at.out _ at.i (row_in c.before.before.before.before.row_for.result) at.invariant c.before.before.before.before.before.before.before.before.before.before.before.loop-test.true
+    (c.before.before.before.before.row_for.ensures
     ∙ ap (λ v. row_of (parameter_of a.area.now (get_or p.codes at.i 0) (get_or p.styles at.i 0) (get_or p.names at.i 0) (pair_of v))) c.before.before.before.before.before.new2.ensures)
     c.before.before.put-row.auto.1.1.0 c.before.before.put-row.ensures
 
@@ -51,7 +51,7 @@ unfolding value_cells
 returns c =
     let a = c.before.before.before.before.before.before.before.before.before.args in
     let at = c.before.loop in
-    writing-end a.area.now a.t1 a.function a.out.now _ at.out at.i at.invariant c.loop-test.false c.before.before.before.before.before.before.before.before.before.requires.1
+    writing_end a.area.now a.t1 a.function a.out.now _ at.out at.i at.invariant c.loop-test.false c.before.before.before.before.before.before.before.before.before.requires.1
     (c.before.before.before.before.put.ensures ∙ ap (λ p. stored a.out.now 0 (value_cells (pair_of p))) c.before.before.before.before.before.new.ensures)
 
 pub write-list-spec : {M : Type 1} → statement M

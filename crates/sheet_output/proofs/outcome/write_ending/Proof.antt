@@ -3,7 +3,7 @@ use mathlib.Core.Path.{sym, ap}
 use native.Mathlib.Omega.{arith}
 use Rattle.cells.proofs.LawsOut.{put_same}
 use Rattle.sheet_output.specs.Outcome.{outcome_shown}
-use Rattle.sheet_output.proofs.LawsOutcome.{refusal-shown}
+use Rattle.sheet_output.proofs.LawsOutcome.{refusal_shown}
 use borrow.Author.Rules.{rules}
 use Rattle.sheet_output.proofs.outcome.write_ending.Statement.{statement}
 use Rattle.sheet_output.proofs.outcome.write_ending.Tie as tie
@@ -26,7 +26,7 @@ returns-2 c = let a = c.before.before.before.before.before.before.before.before.
 returns-3 : tie.Need-returns-3
 returns-3 c =
     let a = c.before.before.before.before.before.before.before.before.before.args in
-    put_same _ _ (refusal-shown a.spec.now a.call.now a.list.params a.board.now a.answer c.before.before.before.before.match.keys3) c.before.before.write-refused.ensures
+    put_same _ _ (refusal_shown a.spec.now a.call.now a.list.params a.board.now a.answer c.before.before.before.before.match.keys3) c.before.before.write-refused.ensures
 
 pub write-ending-spec : {M : Type 1} → statement M
 write-ending-spec = tie.close (tie.spec (λ c. search rules) write-accepted-requires (λ c. search rules) write-refused-count-requires write-refused-requires (λ c. search rules) returns (λ c. search rules) returns-2 (λ c. search rules) returns-3)

@@ -11,7 +11,7 @@ use Rattle.cells.specs.Answer.{answer_of}
 use Rattle.builder.specs.Params.{style_of, step_of, ask_adding}
 use Rattle.builder.specs.Spec.{params_of}
 use Rattle.builder.proofs.LawsParams.{Room, length_held}
-use Rattle.builder.proofs.LawsSpec.{stepping-refused, longer-stored, asked-plain, asked-room, adding-plain}
+use Rattle.builder.proofs.LawsSpec.{stepping_refused, longer_stored, asked_plain, asked_room, adding_plain}
 use Rattle.builder.proofs.spec.ParametersSpecBuilder.add.Statement.{statement}
 use Rattle.builder.proofs.spec.ParametersSpecBuilder.add.Tie as tie
 
@@ -26,15 +26,15 @@ asked c = sym c.before.before.may_add.ensures ∙ ap answer_of c.enum_told.given
 room : (c : tie.After-enum-told) → c.before.before.before.before.before.before.before.before.args.t1.len < 64
 room c =
     let a = c.before.before.before.before.before.before.before.before.args in
-    asked-room a.area.now a.t1 a.s (asked c)
+    asked_room a.area.now a.t1 a.s (asked c)
 
 returns : tie.Need-returns
 returns c =
     let a = c.before.before.before.before.before.before.before.before.before.before.args in
     let pre = c.before.before.before.before.before.before.before.before.before.before.requires in
     rw c.refused.ensures
-    (stepping-refused a.area.now a.t1 (step_of a.s) _
-    (asked-plain a.area.now a.t1 a.s pre.0 pre.1 pre.2
+    (stepping_refused a.area.now a.t1 (step_of a.s) _
+    (asked_plain a.area.now a.t1 a.s pre.0 pre.1 pre.2
     ∙ sym c.before.before.before.before.may_add.ensures
     ∙ ap answer_of c.before.before.asked.given.1))
 
@@ -86,8 +86,8 @@ returns-2 c =
     let kinds : length b.default_kinds ≡ 64 = length_held b.default_kinds held.1.1.1.0.1.0.1 in
     let payloads : length b.default_payloads ≡ 64 = length_held b.default_payloads held.1.1.1.1.0.1.0.1 in
     let all : Room (params_of b) b.len = omega (arith, room told) in
-    adding-plain start.args.area.now b _ s start.requires.0 start.requires.1 start.requires.2 (asked told)
-    (longer-stored b _ s number.result number.ensures all refl)
+    adding_plain start.args.area.now b _ s start.requires.0 start.requires.1 start.requires.2 (asked told)
+    (longer_stored b _ s number.result number.ensures all refl)
     c.before.positional-only.ensures
     c.positional.ensures
     refl refl refl

@@ -4,7 +4,7 @@ use mathlib.Core.Path.{refl}
 use borrow.Author.Rules.{rules}
 use Rattle.rules.specs.Parameters.{args}
 use Rattle.builder.proofs.LawsAsk.{act_code}
-use Rattle.builder.proofs.LawsSpec.{adding_6, adding-args}
+use Rattle.builder.proofs.LawsSpec.{adding_6, adding_args}
 use Rattle.builder.proofs.spec.ParametersSpecBuilder.args.Statement.{statement}
 use Rattle.builder.proofs.spec.ParametersSpecBuilder.args.Tie as tie
 
@@ -23,7 +23,7 @@ returns-2 c =
     let p = c.before.push.ensures in
     λ area.
     rw c.with.ensures
-    (adding-args area b _ s (act_code s 6 pre.0) pre.1 c.before.before.if1.false
+    (adding_args area b _ s (act_code s 6 pre.0) pre.1 c.before.before.if1.false
     (record { len = p.longer.len; list = p.longer.list })
     p.positional_only p.positional refl refl refl)
 

@@ -7,7 +7,7 @@ use borrow.Author.Rules.{rules}
 use Rattle.builder.specs.Params.{step_of}
 use Rattle.builder.specs.Spec.{params_of}
 use Rattle.builder.proofs.LawsParams.{Room, length_held}
-use Rattle.builder.proofs.LawsSpec.{longer-stored}
+use Rattle.builder.proofs.LawsSpec.{longer_stored}
 use Rattle.builder.proofs.spec.ParametersSpecBuilder.push.Statement.{statement}
 use Rattle.builder.proofs.spec.ParametersSpecBuilder.push.Tie as tie
 
@@ -24,7 +24,7 @@ returns c =
     let payloads : length b.default_payloads ≡ 64 = length_held b.default_payloads held.1.1.1.1.0.1.0.1 in
     let room : Room (params_of b) b.len = omega arith in
     record {
-      longer = longer-stored b _ s c.number.result c.number.ensures room refl;
+      longer = longer_stored b _ s c.number.result c.number.ensures room refl;
       positional_only = refl;
       positional = refl;
       style = refl;

@@ -8,7 +8,7 @@ use Rattle.rules.specs.Parameters.{comes_before}
 use Rattle.builder.specs.declared.params.CurrentParameterStyle.TheVariants.{PosOrNamed, NamedOnly, NoMore}
 use Rattle.builder.specs.Params.{style_of}
 use Rattle.builder.proofs.LawsAsk.{act_code}
-use Rattle.builder.proofs.LawsSpec.{refused-code, refused_plain, refused-star, refused_above, under_first_three, under_first_two, under_last_two}
+use Rattle.builder.proofs.LawsSpec.{refused_code, refused_plain, refused_star, refused_above, under_first_three, under_first_two, under_last_two}
 use Rattle.builder.proofs.spec.ParametersSpecBuilder.step.Statement.{statement}
 use Rattle.builder.proofs.spec.ParametersSpecBuilder.step.Tie as tie
 
@@ -40,21 +40,21 @@ unfolding comes_before
 returns-2 c =
     let a = c.before.before.before.before.before.args in
     rw c.refused.ensures
-    (refused-code a.area.now a.self a.s 4 PosOrNamed c.before.before.before.match.keys1 c.before.enum-told2.given.1 refl)
+    (refused_code a.area.now a.self a.s 4 PosOrNamed c.before.before.before.match.keys1 c.before.enum-told2.given.1 refl)
 
 returns-3 : tie.Need-returns-3
 unfolding comes_before
 returns-3 c =
     let a = c.before.before.before.before.before.args in
     rw c.refused2.ensures
-    (refused-code a.area.now a.self a.s 4 NamedOnly c.before.before.before.match.keys1 c.before.enum-told3.given.1 refl)
+    (refused_code a.area.now a.self a.s 4 NamedOnly c.before.before.before.match.keys1 c.before.enum-told3.given.1 refl)
 
 returns-4 : tie.Need-returns-4
 unfolding comes_before
 returns-4 c =
     let a = c.before.before.before.before.before.args in
     rw c.refused3.ensures
-    (refused-code a.area.now a.self a.s 4 NoMore c.before.before.before.match.keys1 c.before.enum-told4.given.1 refl)
+    (refused_code a.area.now a.self a.s 4 NoMore c.before.before.before.match.keys1 c.before.enum-told4.given.1 refl)
 
 returns-5 : tie.Need-returns-5
 returns-5 c = c.kwargs.ensures _
@@ -64,7 +64,7 @@ unfolding comes_before
 returns-6 c =
     let a = c.before.before.before.before.before.args in
     rw c.refused4.ensures
-    (refused-code a.area.now a.self a.s 7 NoMore c.before.before.before.match.keys2 c.before.enum-told5.given.1 refl)
+    (refused_code a.area.now a.self a.s 7 NoMore c.before.before.before.match.keys2 c.before.enum-told5.given.1 refl)
 
 returns-7 : tie.Need-returns-7
 returns-7 c = c.add.ensures
@@ -87,7 +87,7 @@ returns-11 : tie.Need-returns-11
 returns-11 c =
     let a = c.before.before.before.before.before.before.before.args in
     rw c.refused6.ensures
-    (refused-star a.area.now a.self a.s a.self.current_style (omega arith) c.before.before.if3.true refl (under_last_two a.self.current_style c.before.match5.keys2))
+    (refused_star a.area.now a.self a.s a.self.current_style (omega arith) c.before.before.if3.true refl (under_last_two a.self.current_style c.before.match5.keys2))
 
 returns-12 : tie.Need-returns-12
 returns-12 c =
@@ -95,7 +95,7 @@ returns-12 c =
     let none_of = c.before.before.match.rest in
     rw c.refused7.ensures
     (⊎_elim
-    (λ w. refused-code a.area.now a.self a.s 0 a.self.current_style (omega arith) refl refl)
+    (λ w. refused_code a.area.now a.self a.s 0 a.self.current_style (omega arith) refl refl)
     (λ w. refused_above a.area.now a.self a.s (omega (arith, w.2.left)))
     c.before.if1.branch)
 
