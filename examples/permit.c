@@ -1,8 +1,8 @@
 /*
  * Holds a week of runs against pump permits, each so many minutes over any w runs in a row.
- * From the root of a checkout, after `rt staticlib liuwdom`:
+ * From the root of a checkout, after `rt lib` in crates/liuwdom:
  *
- *     cc -Iinclude examples/permit.c target/staticlib/libliuwdom.a -o permit && ./permit
+ *     cc -Iinclude examples/permit.c crates/liuwdom/out/libliuwdom.a -o permit && ./permit
  */
 #include <inttypes.h>
 #include <stdio.h>

@@ -1,8 +1,8 @@
 /*
  * Binds 01's example from C, by records: water(block, /, start, minutes=30, **kwargs) called as water("B3", start=400, crop="vine").
- * From the root of a checkout, after `rt staticlib liuwdom`:
+ * From the root of a checkout, after `rt lib` in crates/liuwdom:
  *
- *     cc -Iinclude examples/water.c target/staticlib/libliuwdom.a -o water && ./water
+ *     cc -Iinclude examples/water.c crates/liuwdom/out/libliuwdom.a -o water && ./water
  */
 #include <inttypes.h>
 #include <stdio.h>

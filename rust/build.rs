@@ -1,4 +1,4 @@
-// Links the proved library: target/staticlib/libliuwdom.a of this repository, or that of the folder in LIUWDOM_LIB_DIR.
+// Links the proved library: crates/liuwdom/out/libliuwdom.a of this repository, or that of the folder in LIUWDOM_LIB_DIR.
 use std::env;
 use std::path::{Path, PathBuf};
 use std::process::exit;
@@ -10,7 +10,7 @@ fn folder() -> PathBuf {
         Some(given) => PathBuf::from(given),
         None => {
             let package = env::var_os("CARGO_MANIFEST_DIR").unwrap_or_default();
-            Path::new(&package).join("../target/staticlib")
+            Path::new(&package).join("../crates/liuwdom/out")
         }
     }
 }
@@ -22,7 +22,7 @@ fn main() {
     println!("cargo:rerun-if-changed={}", archive.display());
     if !archive.is_file() {
         eprintln!(
-            "{} is missing: run `rt staticlib liuwdom` at the root of the checkout first, or set LIUWDOM_LIB_DIR to the folder that holds {ARCHIVE}",
+            "{} is missing: run `rt lib` in crates/liuwdom first, or set LIUWDOM_LIB_DIR to the folder that holds {ARCHIVE}",
             archive.display()
         );
         exit(1);

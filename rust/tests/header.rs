@@ -70,7 +70,7 @@ fn both_have_the_same_constants() {
 
 fn archive() -> PathBuf {
     let folder = std::env::var_os("LIUWDOM_LIB_DIR").map(PathBuf::from);
-    let folder = folder.unwrap_or(PathBuf::from(ROOT).join("target/staticlib"));
+    let folder = folder.unwrap_or(PathBuf::from(ROOT).join("crates/liuwdom/out"));
     folder.join("libliuwdom.a")
 }
 
