@@ -8,13 +8,13 @@ use Prim.Native.Nat.{ℕ, suc, ◌≤◌}
 use native.Mathlib.Nat.{suc_inj}
 use native.Mathlib.Omega.{arith}
 use borrow.Author.Tests.{le-leb, leb-true, ne_eqb}
-use lib.Dec.{leb, eqb}
+use lib.Dec.{leb}
 use lib.ListN.{length, length-map}
 use Rattle.rules.specs.Listing.{any, map_from}
 use Rattle.rules.specs.Value.{Value}
 use Rattle.rules.specs.Answer.{Answer, fine, refuse, ◌then◌, Detail, none, name, count_and_name, part_of, spec_area, call_area}
 use Rattle.rules.specs.ParameterRecord.{encode_parameters}
-use Rattle.rules.specs.CallRecord.{Pair, Named, Call, encode_call, read_call, named_in, call_in, positionals_of, named_of}
+use Rattle.rules.specs.CallRecord.{Pair, Named, encode_call, named_in, call_in, positionals_of, named_of}
 use Rattle.rules.specs.Parameters.{Parameter, is_required, has_args, has_kwargs}
 use Rattle.rules.specs.Lookup.{known}
 use Rattle.rules.specs.ParameterQuestions.{ask_parameters, list_of}

@@ -6,10 +6,10 @@ use mathlib.Core.Bool.{Bool, true, false, cond, ◌&&◌, ◌||◌, false≢true
 use mathlib.Core.List.{List, [], ◌∷◌, ◌++◌, map}
 use Prim.Native.Nat.{ℕ, suc}
 use lib.Seq.{append_snoc}
-use Rattle.rules.specs.Listing.{all, any, any_from}
+use Rattle.rules.specs.Listing.{any, any_from}
 use Rattle.rules.specs.Text.{among, differ}
 use Rattle.rules.specs.Value.{Value}
-use Rattle.rules.specs.Answer.{Answer, fine, refuse, ◌then◌, ask, Detail, name, part_of, spec_area, call_area}
+use Rattle.rules.specs.Answer.{Answer, fine, refuse, ◌then◌, Detail, name, part_of, spec_area, call_area}
 use Rattle.rules.specs.CallRecord.{Call, Named, Entry, word, words, entries_of, positionals_of, named_of}
 use Rattle.rules.specs.Parameters.{Parameter}
 use Rattle.rules.specs.Lookup.{names}

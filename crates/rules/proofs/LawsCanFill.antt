@@ -7,10 +7,10 @@ use mathlib.Core.Option.{Option, none, some}
 use Prim.Native.Nat.{ℕ, zero, suc, ◌+◌}
 use lib.Dec.{leb, ltb, eqb, leb-zero, leb-suc-zero, leb-suc-suc}
 use lib.ListN.{length, drop, get_or}
-use Rattle.rules.specs.Listing.{all, any, tally, keep, any_from, map_from}
+use Rattle.rules.specs.Listing.{all, keep, any_from, map_from}
 use Rattle.rules.specs.Text.{differ}
 use Rattle.rules.specs.Value.{Value, no_value}
-use Rattle.rules.specs.Answer.{fine, refuse, ◌then◌, name, part_of, spec_area}
+use Rattle.rules.specs.Answer.{refuse, ◌then◌, name, part_of, spec_area}
 use Rattle.rules.specs.CallRecord.{Named}
 use Rattle.rules.specs.Parameters.{Parameter, ParameterKind, required, optional, defaulted, args, kwargs, is_required, positional, positional_count, has_args, has_kwargs}
 use Rattle.rules.specs.Lookup.{names, known}
@@ -19,7 +19,7 @@ use Rattle.rules.specs.Binding.{texts_of, named_by, missing, ask_required, ask_s
 use Rattle.rules.specs.CanFill.{fillings, filled_twice, left_empty, can_fill}
 use Rattle.rules.proofs.LawsListing.{any_from_same, all_map, tally_map}
 use Rattle.rules.proofs.LawsAnswer.{is_fine, is_fine_then}
-use Rattle.rules.proofs.LawsPlacement.{is_some, partner_some, naming, tally_naming}
+use Rattle.rules.proofs.LawsPlacement.{is_some, partner_some, tally_naming}
 use Rattle.rules.proofs.LawsBinding.{repeats, repeats_slots}
 
 -- ---- 23 and 24

@@ -1,7 +1,7 @@
 -- Number 8 is retired (02, §8; specs/Retired): asked after 1 to 7 it refuses nothing, since no step list has more positional-only parameters than
 -- positional ones; and no chain of questions, no outcome and no verdict over a sheet has it.
 -- Assumes nothing.
-use mathlib.Core.Path.{◌≡◌, refl, sym, ap, ◌∙◌}
+use mathlib.Core.Path.{◌≡◌, refl, ap, ◌∙◌}
 use mathlib.Core.Bool.{Bool, true, false, cond, not, ◌&&◌, false≢true}
 use mathlib.Core.List.{List, [], ◌∷◌, ◌++◌}
 use Prim.Native.Nat.{ℕ, suc, ◌+◌, ◌≤◌}
@@ -24,9 +24,8 @@ use Rattle.rules.specs.Printed.{printed_least, parameters_str}
 use Rattle.rules.specs.SheetLines.{lines_in, unended, cells_in, three_cells, header_right, Columns, columns_in, Row, row_in}
 use Rattle.rules.specs.SheetRows.{is_empty, parameter_row_right, call_row_right}
 use Rattle.rules.specs.SheetInput.{Verdict, right, bad, ◌else◌, unless, judge_rows, judge_sheet, input_most, parameter_lines, call_lines, judge_input}
-use Rattle.rules.specs.Retired.{EightRetired}
 use Rattle.rules.proofs.LawsCounts.{step_counts}
-use Rattle.rules.proofs.LawsNumbers.{refuses_by, refuses_in, then_by, ask_by, number_by, wider_by, outcome_by, parameters_in_lem, form_in, call_in_lem, board_in, entries_in, named_in, binding_in}
+use Rattle.rules.proofs.LawsNumbers.{refuses_by, refuses_in, then_by, ask_by, wider_by, outcome_by, parameters_in_lem, form_in, call_in_lem, board_in, entries_in, named_in, binding_in}
 
 -- ---- asked, it would refuse nothing
 
@@ -34,7 +33,7 @@ then_passed : (a : Answer) (n : ℕ) → (a then ask n true) ≡ a
 then_passed fine n = refl
 then_passed (refuse m d) n = refl
 
-needless : (A : ℕ) (cells area : List ℕ)
+pub needless : (A : ℕ) (cells area : List ℕ)
     → (ask_parameters A cells area then ask 8 (leb (positional_only_count (list_of cells area)) (positional_count (list_of cells area)))) ≡ ask_parameters A cells area
 unfolding list_of parameters_of
 needless A cells area =
@@ -45,13 +44,13 @@ needless A cells area =
 -- ---- chains of questions
 
 -- another number than 8
-abbrev other : ℕ → Bool
+abbrev pub other : ℕ → Bool
 other n = not (eqb n 8)
 
 not_8 : (n : ℕ) → (n ≡ 8 → ⊥) → other n ≡ true
 not_8 n h = ap not (ne_eqb n 8 h)
 
-list_other : (A : ℕ) (cells area : List ℕ) → refuses_by other (ask_parameters A cells area) ≡ true
+pub list_other : (A : ℕ) (cells area : List ℕ) → refuses_by other (ask_parameters A cells area) ≡ true
 list_other A cells area = wider_by 1 7 other (λ n l m. not_8 n (λ e. omega arith)) (ask_parameters A cells area) (parameters_in_lem A cells area)
 
 -- a chain of questions from 9 on
@@ -66,7 +65,7 @@ board_other A B board = later_other 14 14 (omega arith) (ask_board A B board) (b
 
 -- ---- records
 
-collected : (A B : ℕ) (spec_cells spec call_cells call board : List ℕ) (d : Detail) → collection A B spec_cells spec call_cells call board ≡ refused 8 d → ⊥
+pub collected : (A B : ℕ) (spec_cells spec call_cells call board : List ℕ) (d : Detail) → collection A B spec_cells spec call_cells call board ≡ refused 8 d → ⊥
 unfolding collection ask_records
 collected A B spec_cells spec call_cells call board d e =
     let qs : List Parameter = list_of spec_cells spec in
@@ -85,7 +84,7 @@ filling_other : (a : Answer) (b : Bool) (d : Detail) → refuses_by other a ≡ 
 filling_other fine b d h e = let z : ◌≡◌ {A = ℕ} 0 1 = cc in omega arith
 filling_other (refuse n f) b d h e = let same : n ≡ 8 = cc in false≢true (rw same at h)
 
-filled : (A B : ℕ) (spec_cells spec call_cells call : List ℕ) (d : Detail) → fillable A B spec_cells spec call_cells call ≡ refused_filling 8 d → ⊥
+pub filled : (A B : ℕ) (spec_cells spec call_cells call : List ℕ) (d : Detail) → fillable A B spec_cells spec call_cells call ≡ refused_filling 8 d → ⊥
 unfolding fillable
 filled A B spec_cells spec call_cells call d e =
     filling_other (ask_parameters A spec_cells spec then ask_form B call_cells call) _ d
@@ -99,7 +98,7 @@ access_other : (a : Answer) (k : ℕ) (d : Detail) → refuses_by other a ≡ tr
 access_other fine k d h e = let z : ◌≡◌ {A = ℕ} 0 1 = cc in omega arith
 access_other (refuse n f) k d h e = let same : n ≡ 8 = cc in false≢true (rw same at h)
 
-printed : (A : ℕ) (cells area out : List ℕ) (d : Detail) → parameters_str A cells area out ≡ denied 8 d → ⊥
+pub printed : (A : ℕ) (cells area out : List ℕ) (d : Detail) → parameters_str A cells area out ≡ denied 8 d → ⊥
 unfolding parameters_str
 printed A cells area out d e =
     access_other (ask_parameters A cells area then ask 29 (leb (printed_least A) (length out))) _ d
@@ -113,7 +112,7 @@ writing_other A B cells area out a h =
     then_by other (ask_call B cells area then ask_board A B out) a
     (then_by other (ask_call B cells area) (ask_board A B out) (call_other B cells area) (board_other A B out)) h
 
-names : (A B : ℕ) (cells area out : List ℕ) (d : Detail) → names_map A B cells area out ≡ denied 8 d → ⊥
+pub names : (A B : ℕ) (cells area out : List ℕ) (d : Detail) → names_map A B cells area out ≡ denied 8 d → ⊥
 unfolding names_map
 names A B cells area out d e =
     let c : Call = call_of cells area in
@@ -125,7 +124,7 @@ names A B cells area out d e =
     (later_other 15 19 (omega arith) entries (entries_in [] [] c.named (entries_of c.double)))))
     e
 
-values : (A B : ℕ) (cells area out : List ℕ) (d : Detail) → positions A B cells area out ≡ denied 8 d → ⊥
+pub values : (A B : ℕ) (cells area out : List ℕ) (d : Detail) → positions A B cells area out ≡ denied 8 d → ⊥
 unfolding positions
 values A B cells area out d e =
     let c : Call = call_of cells area in
@@ -133,7 +132,7 @@ values A B cells area out d e =
     (writing_other A B cells area out (ask 15 (star_passes c.star)) (ask_by other 15 (star_passes c.star) refl))
     e
 
-arguments : (B : ℕ) (cells area : List ℕ) (d : Detail) → len B cells area ≡ denied 8 d → ⊥
+pub arguments : (B : ℕ) (cells area : List ℕ) (d : Detail) → len B cells area ≡ denied 8 d → ⊥
 unfolding len
 arguments B cells area d e =
     let c : Call = call_of cells area in
@@ -144,7 +143,7 @@ arguments B cells area d e =
     (then_by other fifteen seventeen (ask_by other 15 (star_passes c.star) refl) (ask_by other 17 (double_passes c.double) refl)))
     e
 
-unnamed : (B : ℕ) (cells area : List ℕ) (d : Detail) → no_named_args B cells area ≡ denied 8 d → ⊥
+pub unnamed : (B : ℕ) (cells area : List ℕ) (d : Detail) → no_named_args B cells area ≡ denied 8 d → ⊥
 unfolding no_named_args
 unnamed B cells area d e =
     let c : Call = call_of cells area in
@@ -165,7 +164,7 @@ number_other required more got = go (leb required got && leb got (required + mor
     go true = refl
     go false = refl
 
-chosen : (A B required more : ℕ) (cells area out : List ℕ) (d : Detail) → optional A B required more cells area out ≡ denied 8 d → ⊥
+pub chosen : (A B required more : ℕ) (cells area out : List ℕ) (d : Detail) → optional A B required more cells area out ≡ denied 8 d → ⊥
 unfolding optional
 chosen A B required more cells area out d e =
     let c : Call = call_of cells area in
@@ -181,7 +180,7 @@ chosen A B required more cells area out d e =
 -- ---- sheets
 
 -- a line is bad by another number
-abbrev other_line : Verdict → Bool
+abbrev pub other_line : Verdict → Bool
 other_line right = true
 other_line (bad n at) = other n
 
@@ -206,7 +205,7 @@ sheet_other row_right at (header ∷ lines) =
     else_other (unless (header_right header) at) (judge_rows row_right (columns_in header) (suc at) [] lines) (unless_other (header_right header) at)
     (rows_other row_right (columns_in header) (suc at) [] lines)
 
-input_other : (A B : ℕ) (input : List ℕ) → other_line (judge_input A B input) ≡ true
+pub input_other : (A B : ℕ) (input : List ℕ) → other_line (judge_input A B input) ≡ true
 unfolding judge_input
 input_other A B input =
     let short : Verdict = unless (leb (length input) input_most) 0 in
@@ -219,22 +218,3 @@ input_other A B input =
     (else_other parted (given else ended) (unless_other (leb 2 (length (parameter_lines input)) && ltb (length (parameter_lines input)) (length (lines_in input))) (length (parameter_lines input) + 1))
     (else_other given ended (sheet_other (call_row_right B) (length (parameter_lines input) + 2) (call_lines input))
     (unless_other (leb 1 (length (call_lines input)) && is_empty (unended input)) (length (lines_in input) + 1)))))
-
--- ---- all of it
-
-pub eight_retired : (A B : ℕ) → EightRetired A B
-eight_retired A B =
-    record {
-      needless = needless A;
-      built = λ cells area d e. false≢true (number_by other (ask_parameters A cells area) 8 d (list_other A cells area) e);
-      printed = printed A;
-      collected = collected A B;
-      filled = filled A B;
-      names = names A B;
-      values = values A B;
-      length = arguments B;
-      unnamed = unnamed B;
-      chosen = chosen A B;
-      judged = λ input at e. false≢true (sym (ap other_line e) ∙ input_other A B input);
-      bound = λ input d e. collected A B _ _ _ _ _ d e;
-    }

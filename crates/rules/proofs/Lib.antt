@@ -22,6 +22,7 @@ pub mod LawsSheetValue
 pub mod LawsSheetRows
 pub mod LawsSheetForm
 pub mod LawsRetired
+pub mod Retired
 pub mod LawsSheetOutput
 pub mod LawsWindow
 pub mod Demand3

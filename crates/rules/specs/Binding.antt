@@ -1,10 +1,10 @@
 -- Questions 15 to 24 (01, the questions, binding), in the order in which the Rust's `collect_slow` reports, but that 24 comes directly after the
 -- entries (02, §4): 15, 16, 17, 18 and 19, 24, 20 to 22, 23.
-use Rattle.std.specs.Prelude.{Bool, true, false, cond, not, ◌&&◌, ◌||◌, List, [], ◌∷◌, ◌++◌, map, ℕ, suc, length}
+use Rattle.std.specs.Prelude.{Bool, true, false, cond, ◌&&◌, ◌||◌, List, [], ◌∷◌, ◌++◌, map, ℕ, suc, length}
 use Rattle.rules.specs.Listing.{any, any_from}
 use Rattle.rules.specs.Text.{Text, among}
 use Rattle.rules.specs.Value.{Value}
-use Rattle.rules.specs.Answer.{Answer, fine, refuse, ◌then◌, ask, name, count, count_and_name, Area, spec_area, call_area, part_of}
+use Rattle.rules.specs.Answer.{Answer, fine, refuse, ◌then◌, ask, name, count, count_and_name, spec_area, call_area, part_of}
 use Rattle.rules.specs.CallRecord.{Call, Named, Entry, Key, word, number, word_of, Star, no_star, iterable, not_iterable, Double, no_double, dictionary, not_dictionary, entries_of, positionals_of, named_of}
 use Rattle.rules.specs.Parameters.{Parameter, Style, pos_only, pos_or_named, named_only, no_more, is_required, has_args, has_kwargs}
 use Rattle.rules.specs.Lookup.{names}

@@ -1,5 +1,5 @@
 -- The two counts of a list, step by step (02, §8). A list is what its steps add, and no question is asked on the way, so all of this holds of
--- step lists that 5, 6 or 7 refuses too (CountExamples has one of each). The proof is `step_Counts` of proofs/LawsCounts.
+-- step lists that 5, 6 or 7 refuses too (CountExamples has one of each). The proof is `step_counts` of proofs/LawsCounts.
 use Rattle.std.specs.Prelude.{◌≡◌, true, List, ◌++◌, ℕ, ◌+◌, ◌≤◌}
 use Rattle.rules.specs.ParameterRecord.{Step}
 use Rattle.rules.specs.Parameters.{Style, pos_only, comes_before, ParameterKind, adds, Parameter, plain, added, added_from, positional_only_count, positional_count}

@@ -5,7 +5,7 @@ use Rattle.std.specs.Prelude.{◌≡◌, List, [], ◌∷◌, ◌++◌, ℕ, rep
 use Rattle.rules.specs.Cells.{over}
 use Rattle.rules.specs.Text.{payload_of, start_of, size_of, bytes_at, inside, is_text, text_in}
 use Rattle.rules.specs.Value.{Value, value_width, value_cells, read_value, no_value, spec_text, call_text, well_formed, well_formed_default, well_formed_argument, well_formed_name, well_formed_key}
-use Rattle.rules.specs.Answer.{none, name, count, count_and_name, Part, Area, spec_area, call_area, part_of}
+use Rattle.rules.specs.Answer.{none, name, count, count_and_name, Part, spec_area, call_area, part_of}
 use Rattle.rules.specs.ParameterRecord.{Step, ParameterRecord, step_width, step_cells, read_step, parameter_length, step_count, read_parameters, encode_parameters}
 use Rattle.rules.specs.CallRecord.{Pair, CallRecord, pair_width, pair_cells, read_pair, head_width, read_head, call_length, read_call, encode_call, named_in, key_in, entry_in, call_in, positionals_of, named_of}
 use Rattle.rules.specs.Parameters.{comes_before, act, positional, nameable, parameters_of, positional_count, has_args, has_kwargs}

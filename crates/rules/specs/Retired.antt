@@ -1,6 +1,6 @@
 -- Number 8 is retired (02, §8). At the end of building 01 asks with it whether the positional-only count is at most the positional one, and
 -- that holds of every list of steps (Counts). So nothing was ever refused by 8; no list, record or sheet ends in it, and no question takes the
--- number again. The proof is `eight_retired` of proofs/LawsRetired.
+-- number again. The proof is `eight_retired` of proofs/Retired.
 use Rattle.std.specs.Prelude.{◌≡◌, List, ℕ, leb}
 use Rattle.rules.specs.Answer.{Detail, refuse, ◌then◌, ask}
 use Rattle.rules.specs.Parameters.{positional_only_count, positional_count}
