@@ -9,7 +9,7 @@ use Prim.Native.Nat.{ℕ, zero, suc, ◌+◌, ◌-◌, min, ◌≤◌, ◌<◌}
 use native.Mathlib.Omega.{arith}
 use borrow.Author.Tests.{ltb-true, leb-true, le-leb}
 use lib.Dec.{ltb, leb, eqb}
-use lib.ListN.{length, get_or, set, replicate, length-set, length-replicate}
+use lib.ListN.{length, get_or, replicate, length-set, length-replicate}
 use Rattle.rules.specs.Value.{Value}
 use Rattle.rules.specs.CallRecord.{Call, Named, Entry, Key, word, number, Star, no_star, iterable, not_iterable, Double, no_double, dictionary, not_dictionary}
 use Rattle.rules.specs.Parameters.{ParameterKind, required, optional, defaulted, args, kwargs}
