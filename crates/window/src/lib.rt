@@ -1,4 +1,6 @@
 // Water in the last runs (02, §10): the first run at which the minutes of the last w runs exceed what a pump permit allows.
+#![tactic(auto)]
+
 ghost use Rattle.std.specs.Prelude.{◌≡◌, ◌≤◌};
 ghost use Rattle.rules.specs.Answer.{fine};
 ghost use Rattle.rules.specs.Window.{first_exceeding, window_in_range, window_of, window};

@@ -4,33 +4,29 @@ use mathlib.Core.Path.{◌≡◌, sym, ◌∙◌}
 use mathlib.Core.Bool.{true, ◌&&◌}
 use lib.Dec.{leb}
 use lib.ListN.{length}
-use borrow.Author.Rules.{rules}
 use borrow.Author.Tests.{not-true, not-false, leb-true}
 use Rattle.rules.specs.Window.{window_in_range, ask_window, window}
 use Rattle.rules.proofs.LawsListing.{and_left, and_right}
-use Rattle.window.proofs.window.Statement.{statement}
-use Rattle.window.proofs.window.Tie as tie
+use Rattle.window.proofs.window.Goals as goal
+use Rattle.window.proofs.window.Goals.{Else-not-in_range}
 
-returns : tie.Need-returns
+pub returns-then-not-in_range : goal.returns-then-not-in_range
 unfolding window ask_window
-returns c = rw (sym c.before.in_range.ensures ∙ not-true _ c.if1.true)
+returns-then-not-in_range c = rw (sym c.in_range.ensures ∙ not-true _ c.if-not-in_range.true-raw)
 
-passed : (c : tie.Else1) →
-    let s = c.before.before.before.args in
+passed : (c : Else-not-in_range) →
+    let s = c.args in
     window_in_range s.w (length s.minutes.now) ≡ true
-passed c = sym c.before.in_range.ensures ∙ not-false _ c.if1.false
+passed c = sym c.in_range.ensures ∙ not-false _ c.if-not-in_range.false-raw
 
-first-exceeding-requires : tie.Need-first-exceeding-requires
+pub first_exceeding-requires : goal.first_exceeding-requires
 unfolding window_in_range
-first-exceeding-requires c κs =
-    let s = c.before.before.before.args in
+first_exceeding-requires c =
+    let s = c.args in
     let w = s.w in
     let rest = leb w 1440 && leb (length s.minutes.now) 4096 in
     (leb-true 1 w (and_left (leb 1 w) rest (passed c)), leb-true w 1440 (and_left (leb w 1440) (leb (length s.minutes.now) 4096) (and_right (leb 1 w) rest (passed c))))
 
-returns-2 : tie.Need-returns-2
+pub returns : goal.returns
 unfolding window ask_window
-returns-2 c = rw (passed c.before) c.first-exceeding.ensures
-
-pub window-spec : {M : Type 1} → statement M
-window-spec = tie.close (tie.spec (λ c κs. search rules) returns first-exceeding-requires returns-2)
+returns c = rw (passed (goal.at.returns c).Else-not-in_range) c.first_exceeding.ensures
