@@ -1,5 +1,6 @@
 // Cells and texts (01, cells, texts and records): texts and their bytes, `Value` and its two cells, cells read out of a
 // record, and output into lent cells.
+#![tactic(auto)]
 
 pub mod answer;
 pub mod key;

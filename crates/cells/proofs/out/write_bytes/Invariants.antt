@@ -1,0 +1,13 @@
+-- `cells::out::write_bytes` meets its contract. The loop's invariant: the first k bytes of the text are stored. The measure is how many are
+-- left. Assumes nothing.
+use mathlib.Core.Path.{◌≡◌}
+use Prim.Native.Nat.{◌-◌, ◌≤◌}
+use lib.ListN.{length, take}
+use Rattle.cells.specs.Out.{stored}
+use Rattle.cells.proofs.out.write_bytes.Given as goal
+
+abbrev pub invariant-loop-k : goal.invariant-loop-k
+invariant-loop-k l = (l.k ≤ length l.text) × (length l.out ≡ length l.initial.out) × (l.out ≡ stored l.initial.out l.at (take l.k l.text))
+
+abbrev pub decreases-loop-k : goal.decreases-loop-k
+decreases-loop-k l = length l.text - l.k
