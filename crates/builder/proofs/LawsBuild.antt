@@ -5,7 +5,7 @@ use mathlib.Core.Bool.{true, false}
 use mathlib.Core.List.{List, [], ◌++◌, append_assoc, append-nil}
 use Prim.Native.Nat.{ℕ, ◌+◌, ◌-◌, ◌<◌, ◌≤◌}
 use native.Mathlib.Nat.{sub-zero}
-use Rattle.rules.specs.Answer.{fine, refuse, ◌then◌, none as no_detail}
+use Rattle.rules.specs.Answer.{refuse, ◌then◌, none as no_detail}
 use Rattle.rules.specs.ParameterRecord.{Step as RecordStep, step_count, read_parameters}
 use Rattle.rules.specs.Parameters.{pos_only, act, next_style, added, added_from, parameters_of}
 use Rattle.rules.specs.ParameterQuestions.{whole_steps, codes_known, names_inside, defaults_right, ask_steps, list_of, ask_parameters}

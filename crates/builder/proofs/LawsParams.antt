@@ -2,12 +2,12 @@
 -- more parameter at the end of the columns; a search over them. Assumes nothing.
 use mathlib.Core.Path.{◌≡◌, refl, sym, ap, ◌∙◌}
 use mathlib.Core.Bool.{Bool, true, false, ◌&&◌, and_comm}
-use mathlib.Core.List.{List, [], ◌∷◌, ◌++◌, map}
+use mathlib.Core.List.{List, [], ◌∷◌, ◌++◌}
 use Prim.Native.Nat.{ℕ, zero, suc, ◌+◌, ◌<◌, ◌≤◌}
 use native.Mathlib.Omega.{arith}
 use native.Mathlib.Decide.{dec_le}
 use mathlib.Core.Logic.{◌⊎◌, ⊎_elim}
-use lib.ListN.{length, get_or, set, length-map}
+use lib.ListN.{length, get_or, set}
 use lib.Seq.{get_or-set_same, get_or-set_other}
 use Rattle.rules.specs.Listing.{any}
 use Rattle.rules.specs.Text.{same_bytes, bytes_at, text_in}
@@ -79,10 +79,6 @@ stored p code style name v =
       default_payloads = set p.default_payloads p.len v.payload;
       len = p.len + 1;
     }
-
--- an array in a struct is known by its elements, read one by one
-pub length_held : (xs : List ℕ) {n : ℕ} → length (map (λ v. v) xs) ≡ n → length xs ≡ n
-length_held xs e = sym (length-map xs (λ v. v)) ∙ e
 
 -- every column has an entry at n
 pub record Room (p : Parameters) (n : ℕ) : Type 0 where

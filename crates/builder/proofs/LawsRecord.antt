@@ -1,13 +1,12 @@
 -- Laws of the parameter record, in this order: its steps by consuming the cells are its steps by index; a step's cells; what
 -- questions 2 to 4 say of a step; what a loop over the steps has left to ask. Assumes nothing.
 use mathlib.Core.Path.{◌≡◌, refl, sym, ap, ◌∙◌}
-use mathlib.Core.Bool.{Bool, true, false, not, cond, ◌&&◌}
+use mathlib.Core.Bool.{Bool, true, false, cond, ◌&&◌}
 use mathlib.Core.List.{List, ◌∷◌}
 use Prim.Native.Nat.{ℕ, zero, suc, ◌+◌, ◌-◌, ◌*◌, ◌<◌, ◌≤◌}
 use native.Mathlib.Nat.{add-zero, sub-zero}
 use native.Mathlib.Omega.{arith}
 use lib.Dec.{eqb}
-use borrow.Author.Tests.{not-true, not-false}
 use lib.ListN.{drop, get_or}
 use lib.Seq.{drop-drop, get_or-drop}
 use Rattle.rules.specs.Cells.{read_each}
@@ -50,9 +49,8 @@ pub step_at_cells
     }
 unfolding step_at read_step read_value
 step_at_cells cells i =
-    let e : 1 + 4 * i + 2 + 0 ≡ 1 + 4 * i + 2 = omega arith in
     let f : 1 + 4 * i + 2 + 1 ≡ 1 + 4 * i + 3 = omega arith in
-    simp (drop-drop, get_or-drop, add-zero, e, f)
+    simp (drop-drop, get_or-drop, add-zero, f)
 
 -- ---- a step
 
@@ -130,21 +128,21 @@ module _ (test : RecordStep → Bool) (cells : List ℕ) (m : ℕ) where
   module _ (i : ℕ) {whole : Bool} (left : whole ≡ all test (listed (step_at cells) i (m - i))) where
     -- step i answered r
     module _ (h : i < m) {t : RecordStep} (et : t ≡ step_at cells i) {r : Bool} (er : r ≡ test t) where
-      pub each_stop : not r ≡ true → false ≡ whole
-      each_stop n = sym (left ∙ all_stop test (step_at cells) i m h (rw (← et, ← er) (not-true r n)))
+      pub each_stop : r ≡ false → false ≡ whole
+      each_stop n = sym (left ∙ all_stop test (step_at cells) i m h (rw (← et, ← er) n))
 
-      pub each_next : not r ≡ false → whole ≡ all test (listed (step_at cells) (i + 1) (m - (i + 1)))
-      each_next n = left ∙ all_next test (step_at cells) i m h (rw (← et, ← er) (not-false r n))
+      pub each_next : r ≡ true → whole ≡ all test (listed (step_at cells) (i + 1) (m - (i + 1)))
+      each_next n = left ∙ all_next test (step_at cells) i m h (rw (← et, ← er) n)
 
     pub each_end : m ≤ i → true ≡ whole
     each_end h = sym (left ∙ rw (listed_end (step_at cells) i m h))
 
 -- question 3 begins with the function's name, of which r says whether it is one
 module _ (area cells : List ℕ) {x : ℕ} (ex : x ≡ get_or cells 0 0) {r : Bool} (er : r ≡ is_text 1 area x) where
-  pub function_not : not r ≡ true → false ≡ names_inside area (read_parameters cells)
+  pub function_not : r ≡ false → false ≡ names_inside area (read_parameters cells)
   unfolding names_inside read_parameters
-  function_not n = sym (rw (← ex, ← er, not-true r n))
+  function_not n = sym (rw (← ex, ← er, n))
 
-  pub function_named : not r ≡ false → names_inside area (read_parameters cells) ≡ all (step_name area) (read_parameters cells).steps
+  pub function_named : r ≡ true → names_inside area (read_parameters cells) ≡ all (step_name area) (read_parameters cells).steps
   unfolding names_inside read_parameters
-  function_named n = rw (← ex, ← er, not-false r n)
+  function_named n = rw (← ex, ← er, n)

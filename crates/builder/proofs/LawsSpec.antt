@@ -5,8 +5,7 @@ use mathlib.Core.Path.{◌≡◌, refl, sym, ap, subst, ◌∙◌}
 use mathlib.Core.Bool.{Bool, true, false, cond, false≢true}
 use mathlib.Core.List.{List, [], ◌∷◌, ◌++◌, append-nil}
 use mathlib.Core.Option.{Option, none, some}
-use types.Run.{OneOf, miss}
-use denote.Enum.Declared.{tag_of}
+use mathlib.Core.Logic.{◌⊎◌, inl, inr}
 use Prim.Native.Nat.{ℕ, ◌+◌, ◌<◌, ◌≤◌}
 use native.Mathlib.Nat.{zero-add}
 use native.Mathlib.Omega.{arith}
@@ -27,7 +26,6 @@ use Rattle.cells.specs.declared.answer.Answer.TheVariants.{Fine, Refused}
 use Rattle.builder.specs.declared.spec.ParametersSpecBuilder.{ParametersSpecBuilder}
 use Rattle.builder.specs.Params.{style_of, kind_for, step_of, parameters_in, parameter_of, new_in, ask_adding}
 use Rattle.builder.specs.Spec.{SoFar, Built, Longer, Stepping, refused_by, under_style, style_in, params_of, list_in, index_of}
-use Rattle.builder.specs.contracts.params.CurrentParameterStyle.{the_type}
 use Rattle.rules.proofs.LawsCounts.{step_within}
 use Rattle.cells.proofs.LawsListed.{length_listed, tally_snoc, first_snoc, or_first}
 use Rattle.builder.proofs.LawsCodes.{may_stand_star, code_8}
@@ -385,23 +383,19 @@ module _ (area : List ℕ) (b : ParametersSpecBuilder) (s : Step) where
 
 -- ---- what an arm for several styles says of the style
 
-pub under_first_three : (style : CurrentParameterStyle) → OneOf (0 ∷ 1 ∷ 2 ∷ []) (tag_of the_type style) → comes_before (style_of style) no_more ≡ true
+pub under_first_three
+    : (style : CurrentParameterStyle) → (style ≡ PosOnly) ⊎ ((style ≡ PosOrNamed) ⊎ (style ≡ NamedOnly)) → comes_before (style_of style) no_more ≡ true
 unfolding comes_before
-under_first_three PosOnly h = refl
-under_first_three PosOrNamed h = refl
-under_first_three NamedOnly h = refl
-under_first_three NoMore h = absurd (miss (0 ∷ 1 ∷ 2 ∷ []) 3 tt h)
+under_first_three style (inl e) = rw e
+under_first_three style (inr (inl e)) = rw e
+under_first_three style (inr (inr e)) = rw e
 
-pub under_first_two : (style : CurrentParameterStyle) → OneOf (0 ∷ 1 ∷ []) (tag_of the_type style) → comes_before (style_of style) named_only ≡ true
+pub under_first_two : (style : CurrentParameterStyle) → (style ≡ PosOnly) ⊎ (style ≡ PosOrNamed) → comes_before (style_of style) named_only ≡ true
 unfolding comes_before
-under_first_two PosOnly h = refl
-under_first_two PosOrNamed h = refl
-under_first_two NamedOnly h = absurd (miss (0 ∷ 1 ∷ []) 2 tt h)
-under_first_two NoMore h = absurd (miss (0 ∷ 1 ∷ []) 3 tt h)
+under_first_two style (inl e) = rw e
+under_first_two style (inr e) = rw e
 
-pub under_last_two : (style : CurrentParameterStyle) → OneOf (2 ∷ 3 ∷ []) (tag_of the_type style) → comes_before (style_of style) named_only ≡ false
+pub under_last_two : (style : CurrentParameterStyle) → (style ≡ NamedOnly) ⊎ (style ≡ NoMore) → comes_before (style_of style) named_only ≡ false
 unfolding comes_before
-under_last_two PosOnly h = absurd (miss (2 ∷ 3 ∷ []) 0 tt h)
-under_last_two PosOrNamed h = absurd (miss (2 ∷ 3 ∷ []) 1 tt h)
-under_last_two NamedOnly h = refl
-under_last_two NoMore h = refl
+under_last_two style (inl e) = rw e
+under_last_two style (inr e) = rw e

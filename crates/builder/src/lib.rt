@@ -1,5 +1,7 @@
 // The parameter list (01, on `ParametersSpecBuilder`): from a parameter record to the finished list, questions 1 to 7.
 // Reworked from starlark 0.14.2, src/eval/runtime/params/spec.rs, Apache-2.0.
+#![tactic(auto)]
+
 ghost use Rattle.builder.specs.Build.{NoList, Building, Taking};
 
 use cells::answer::Answer;
