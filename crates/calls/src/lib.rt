@@ -1,5 +1,7 @@
 // The call record (01, questions 9 to 13): the questions put to arbitrary cells, and where the values of P and the pairs of N
 // stand in a record that passes them.
+#![tactic(auto)]
+
 ghost use Rattle.std.specs.Prelude.{◌≡◌};
 ghost use Rattle.rules.specs.Answer.{fine};
 ghost use Rattle.rules.specs.CallQuestions.{ask_form, ask_call};

@@ -1,16 +1,11 @@
 -- `calls::head::entries_from` meets its contract: the bounds of the counts, and the widths written out.
 -- Assumes nothing.
-use borrow.Author.Rules.{rules}
 use Rattle.rules.specs.Value.{value_width}
 use Rattle.rules.specs.CallRecord.{head_width, pair_width}
 use mathlib.Core.Path.{refl}
 use Rattle.calls.specs.Head.{named_from, items_from, entries_from}
-use Rattle.calls.proofs.head.entries_from.Statement.{statement}
-use Rattle.calls.proofs.head.entries_from.Tie as tie
+use Rattle.calls.proofs.head.entries_from.Goals as goal
 
-returns : tie.Need-returns
+pub returns : goal.returns
 unfolding entries_from items_from named_from head_width value_width pair_width
 returns c = refl
-
-pub entries-from-spec : {M : Type 1} → statement M
-entries-from-spec = tie.close (tie.spec (λ c. search rules) (λ c. search rules) (λ c. search rules) (λ c. search rules) (λ c. search rules) (λ c. search rules) returns)
