@@ -9,7 +9,7 @@ use native.Mathlib.Omega.{arith}
 use lib.Dec.{leb}
 use lib.ListN.{length, take, drop, length-append, length-take}
 use borrow.Author.Tests.{leb-true, leb-false, lt-ltb, le-ltb}
-use Rattle.io.specs.Digits.{last_digits, IsDigitCount}
+use Rattle.io.specs.Digits.{last_digits as kit_digits, IsDigitCount}
 use Rattle.rules.specs.Text.{payload_of, start_of, size_of, bytes_at, inside}
 use Rattle.rules.specs.Value.{spec_text, call_text}
 use Rattle.rules.specs.SheetValue.{glyph, last_digits, decimal, print_whole, print_value}
@@ -23,7 +23,7 @@ use Rattle.cells.proofs.LawsOut.{put_then}
 use Rattle.sheet_values.specs.Print.{Printable}
 use Rattle.rules.proofs.LawsDigits.{decimal_fewest}
 
-digits_same : (base k n : ℕ) → last_digits base k n ≡ last_digits base k n
+digits_same : (base k n : ℕ) → kit_digits base k n ≡ last_digits base k n
 digits_same base zero n = refl
 digits_same base (suc k) n = ap (λ (l : List ℕ). l ++ (glyph (n % base) ∷ [])) (digits_same base k (n / base))
 
@@ -52,10 +52,10 @@ module _ (n k : ℕ) (h : n < 2 ^ 64) where
           let p : 16 ^ 16 ≤ 16 ^ (k - 1) = pow-le-pow_right (omega arith) (le_pred m) in
           absurd (omega (arith, f.2 m))
 
-  pub spelled_decimal : IsDigitCount 10 1 n k → (held : List ℕ) → take k held ≡ last_digits 10 k n → take k held ≡ decimal n
+  pub spelled_decimal : IsDigitCount 10 1 n k → (held : List ℕ) → take k held ≡ kit_digits 10 k n → take k held ≡ decimal n
   spelled_decimal f held e = e ∙ digits_same 10 k n ∙ sym (decimal_fewest n k f.0 (fewest_decimal f) f.1 f.2)
 
-  pub spelled_bits : IsDigitCount 16 16 n k → (held : List ℕ) → take k held ≡ last_digits 16 k n → take k held ≡ last_digits 16 16 n
+  pub spelled_bits : IsDigitCount 16 16 n k → (held : List ℕ) → take k held ≡ kit_digits 16 k n → take k held ≡ last_digits 16 16 n
   spelled_bits f held e = e ∙ digits_same 16 k n ∙ ap (λ (m : ℕ). last_digits 16 m n) (fewest_bits f)
 
 -- ---- bytes behind bytes

@@ -1,0 +1,18 @@
+-- `sheet_values::print::write_whole` meets its contract. Assumes nothing.
+use mathlib.Core.List.{◌∷◌}
+use Prim.Native.Nat.{◌+◌, ◌-◌, ◌^◌}
+use Rattle.rules.specs.SheetValue.{decimal, print_whole}
+use Rattle.cells.proofs.LawsOut.{put_same}
+use Rattle.sheet_values.proofs.LawsPrint.{whole_from_zero, whole_below_zero}
+use Rattle.sheet_values.proofs.print.write_whole.Goals as goal
+
+pub returns-then-payload-lt9223372036854775808 : goal.returns-then-payload-lt9223372036854775808
+returns-then-payload-lt9223372036854775808 c =
+    let p = c.args.payload in
+    put_same (105 ∷ decimal p) (105 ∷ print_whole p) (whole_from_zero p c.if-payload-lt9223372036854775808.true) c.write_number.ensures
+
+pub returns : goal.returns
+returns c =
+    let p = c.args.payload in
+    put_same (105 ∷ 45 ∷ decimal (2 ^ 64 - 1 - p + 1)) (105 ∷ print_whole p) (whole_below_zero p c.if-payload-lt9223372036854775808.false c.ranges.payload.fits)
+    c.write_number-2.ensures
