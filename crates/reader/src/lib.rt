@@ -1,7 +1,8 @@
 // The slot reader (01, slot reader; `ParametersParser` of the Rust): a walk over lent slots, one parameter at a time. The parser
-// holds a reference, so each function over it is proved by hand; the work is done by the functions at the end, which take the
-// cells and a position.
+// holds a reference; the work is done by the functions at the end, which take the cells and a position.
 // Reworked from starlark 0.14.2, src/eval/runtime/params/parser.rs, Apache-2.0.
+#![tactic(auto)]
+
 ghost use Rattle.std.specs.Prelude.{◌≡◌};
 ghost use Rattle.rules.specs.Reader.{read_needed, read_optional, at_end, left_at};
 ghost use Rattle.reader.specs.Parser.{read_of, read_or, left_of, moved_on, Reads};
