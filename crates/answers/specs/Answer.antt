@@ -101,4 +101,4 @@ name_bytes spec call r = of_name [] (part_at spec) (part_at call) r
 
 -- where it begins in its area; the spec area's own place where no name goes with the answer
 abbrev pub name_place : Bor (List ℕ) → Bor (List ℕ) → Collected → ℕ × ℕ
-name_place spec call r = of_name spec.ptr (place_at spec) (place_at call) r
+name_place spec call r = of_name spec.ref_ptr (place_at spec) (place_at call) r
