@@ -2,11 +2,7 @@
 -- Assumes nothing.
 use Rattle.std.proofs.Common.{ℕ, sym}
 use lib.ListN.{length-replicate}
-use Rattle.replay.proofs.sheets.room_for_text.Statement.{statement}
-use Rattle.replay.proofs.sheets.room_for_text.Tie as tie
+use Rattle.replay.proofs.sheets.room_for_text.Goals as goal
 
-returns : tie.Need-returns
+pub returns : goal.returns
 returns c = sym (length-replicate {A = ℕ} 524288 0)
-
-pub room-for-text-spec : {M : Type 1} → statement M
-room-for-text-spec = tie.close (tie.spec returns)

@@ -2,11 +2,7 @@
 -- Assumes nothing.
 use Rattle.std.proofs.Common.{ℕ, sym}
 use lib.ListN.{length-replicate}
-use Rattle.replay.proofs.numbers.room_for_numbers.Statement.{statement}
-use Rattle.replay.proofs.numbers.room_for_numbers.Tie as tie
+use Rattle.replay.proofs.numbers.room_for_numbers.Goals as goal
 
-returns : tie.Need-returns
+pub returns : goal.returns
 returns c = sym (length-replicate {A = ℕ} 262144 0)
-
-pub room-for-numbers-spec : {M : Type 1} → statement M
-room-for-numbers-spec = tie.close (tie.spec returns)

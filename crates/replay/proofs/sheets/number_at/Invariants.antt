@@ -1,0 +1,10 @@
+-- `replay::sheets::number_at` is safe and ends. The measure is how many bytes are left.
+-- Assumes nothing.
+use Rattle.std.proofs.Common.{◌-◌, length}
+use Rattle.replay.proofs.sheets.number_at.Given as goal
+
+abbrev pub invariant-loop-i : goal.invariant-loop-i
+invariant-loop-i l = Unit {0}
+
+abbrev pub decreases-loop-i : goal.decreases-loop-i
+decreases-loop-i l = length l.text - l.i
