@@ -1,6 +1,8 @@
 // Fixed cases for water in the last runs (02, §10), played on the compiled code and compared with what they have to end in. The crate's standard
 // input has the cases, and its head says how it is laid out and where they come from. A line names each difference; the last line counts
 // the cases.
+#![tactic(auto)]
+
 use replay::compare::{Place, same_numbers};
 use replay::numbers::{counted, read_numbers, room_for_numbers, take};
 use replay::tally::{Played, Tally, summary};
