@@ -1,5 +1,5 @@
--- The verdict over an input, half by half (01, sheets; 30 and its line), as it is read: `parameters-` are the parameter sheet's lines from its
--- header on, `steps-` those behind the header, `call-` and `values-` the same of the call sheet, `input-` the halves together.
+-- The verdict over an input, half by half (01, sheets; 30 and its line), as it is read: `parameters_` are the parameter sheet's lines from its
+-- header on, `steps_` those behind the header, `call_` and `values_` the same of the call sheet, `input_` the halves together.
 -- Assumes nothing.
 use mathlib.Core.Path.{◌≡◌, refl, sym, ap, ap₂, ◌∙◌}
 use mathlib.Core.Bool.{true, false, ◌&&◌, false≢true}

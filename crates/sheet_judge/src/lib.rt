@@ -1,4 +1,6 @@
 // Which input is well formed (01, sheets and the program bind; 30 and its line): for any bytes the verdict, and where the two sheets stand.
+#![tactic(auto)]
+
 ghost use Rattle.std.specs.Prelude.{◌≡◌};
 ghost use Rattle.sheet_judge.specs.Judged.{places_of, Judging};
 
