@@ -1,16 +1,13 @@
 -- Laws of an accessor's answer (01, accessors), in this order: an answer by what the questions answered, with its output; 9 to 14 as one
--- answer, put together and taken apart; 15 and 17 by the kinds in the head; the answers of `len`; and the answers that no
--- name goes with. `h` is the head that was read.
+-- answer, put together and taken apart; 15 and 17 by the kinds in the head; and the answers of `len`. `h` is the head that was read.
 -- Assumes nothing.
 use mathlib.Core.Path.{◌≡◌, refl, sym, ap, subst, ◌∙◌}
 use mathlib.Core.Bool.{true, not, ◌||◌}
-use mathlib.Core.List.{List, [], ◌∷◌}
+use mathlib.Core.List.{List}
 use Prim.Native.Nat.{ℕ, ◌+◌, ◌≤◌, ◌<◌}
 use native.Mathlib.Omega.{arith}
 use borrow.Author.Tests.{eq-eqb, ne_eqb, le-leb, lt-leb, leb-true}
 use lib.Dec.{leb, eqb}
-use types.Run.{OneOf, miss}
-use denote.Enum.Declared.{tag_of}
 use lib.ListN.{length}
 use Rattle.rules.specs.Cells.{over}
 use Rattle.rules.specs.Answer.{Answer, fine, refuse, none, Detail, ◌then◌, ask}
@@ -23,10 +20,9 @@ use Rattle.rules.specs.Accessors.{denied, gives, access_of, ask_writing, len}
 use Rattle.rules.proofs.LawsAnswer.{then_left, then_right, ask_true}
 use Rattle.rules.proofs.LawsNumbers.{number_in, refuses_in, then_by, number_by, wider_in, call_in_lem, board_in}
 use Rattle.calls.proofs.LawsNamed.{passed_star, passed_double}
-use Rattle.accessors.specs.Answer.{is_numbered, access_in, of_name, Accessing}
+use Rattle.accessors.specs.Answer.{is_numbered, access_in, Accessing}
 use Rattle.accessors.specs.declared.answer.Accessed.{Accessed}
-use Rattle.accessors.specs.declared.answer.Accessed.TheVariants.{Answered, Record, ArgsArrayIsNotIterable, KwArgsIsNotDict, ArgsValueIsNotString, RepeatedArg, ExtraNamedArg, WrongNumberOfArgs}
-use Rattle.accessors.specs.contracts.answer.Accessed.{the_type}
+use Rattle.accessors.specs.declared.answer.Accessed.TheVariants.{Answered, Record}
 
 -- ---- an answer, and the output
 
@@ -116,19 +112,3 @@ module _ (area cells : List ℕ) (h : Head) (read : h ≡ read_head cells) (pass
 pub len_refused : (cells area : List ℕ) (n : ℕ) → ask_call 64 cells area ≡ refuse n none → denied n none ≡ len 64 cells area
 unfolding len
 len_refused cells area n e = rw e
-
--- ---- the answers that no name goes with
-
--- by their place in the enum
-abbrev pub without_name : List ℕ
-without_name = 0 ∷ 1 ∷ 2 ∷ 3 ∷ 4 ∷ 7 ∷ []
-
-pub nameless : {X : Type 0} (unnamed : X) (in_call : ℕ → X) (r : Accessed) → OneOf without_name (tag_of the_type r) → of_name unnamed in_call r ≡ unnamed
-nameless unnamed in_call (Answered k) h = refl
-nameless unnamed in_call (Record n) h = refl
-nameless unnamed in_call ArgsArrayIsNotIterable h = refl
-nameless unnamed in_call KwArgsIsNotDict h = refl
-nameless unnamed in_call ArgsValueIsNotString h = refl
-nameless unnamed in_call (RepeatedArg name) h = absurd (miss without_name 5 tt h)
-nameless unnamed in_call (ExtraNamedArg n name) h = absurd (miss without_name 6 tt h)
-nameless unnamed in_call (WrongNumberOfArgs least most got) h = refl

@@ -131,7 +131,7 @@ module _ (area cells : List ℕ) (h : Head) where
 
     module _ (passed : ask_entry [] [] (names_in area cells h (h.n + k)) key ≡ fine) where
       is_word_lem : is_word key ≡ true
-      is_word = go key passed
+      is_word_lem = go key passed
         where
           go : (x : Key) → ask_entry [] [] (names_in area cells h (h.n + k)) x ≡ fine → is_word x ≡ true
           go (word t) e = refl

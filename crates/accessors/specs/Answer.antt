@@ -59,4 +59,4 @@ name_in call r = of_name [] (part_at call) r
 
 -- where it begins in the call area; the area's own place where no name goes with the answer
 abbrev pub name_place : Bor (List ℕ) → Accessed → ℕ × ℕ
-name_place call r = of_name call.ptr (place_at call) r
+name_place call r = of_name call.ref_ptr (place_at call) r

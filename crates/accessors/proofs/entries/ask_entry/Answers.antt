@@ -1,0 +1,38 @@
+-- `accessors::entries::ask_entry` meets its contract: what 18 and 19 answer for the key that was read.
+-- Assumes nothing.
+use mathlib.Core.Path.{◌≡◌, sym, ap, ◌∙◌}
+use Rattle.rules.specs.Binding.{ask_entry}
+use Rattle.cells.specs.Record.{key_at}
+use Rattle.cells.specs.declared.value.ReadKey.{ReadKey}
+use mathlib.Core.List.{[]}
+use Rattle.calls.specs.Head.{head_of}
+use Rattle.calls.specs.Places.{named_at}
+use Rattle.calls.specs.Named.{pair_entry, names_in}
+use Rattle.accessors.specs.Entries.{entries_answer}
+use Rattle.accessors.proofs.LawsEntries.{name_asked, key_asked, entry_read, pair_key}
+use Rattle.accessors.proofs.entries.ask_entry.Goals as goal
+use Rattle.accessors.proofs.entries.ask_entry.Goals.{After-key_at}
+
+-- the answer, by the key that was read
+read_as : (c : After-key_at) {r : ReadKey} → c.key_at.result ≡ r → let a = c.args in
+    let names = names_in a.area.now a.cells.now (head_of a.h) a.count in
+    entries_answer (key_asked a.area.now names r) ≡ ask_entry [] [] names (pair_entry a.area.now a.cells.now (head_of a.h) a.count).key
+read_as c {r} e =
+    let a = c.args in
+    let names = names_in a.area.now a.cells.now (head_of a.h) a.count in
+    entry_read a.area.now a.cells.now (named_at 64 (head_of a.h) a.count) c.requires.0 names r
+    (ap (key_at a.area.now a.cells.now) (sym c.named_at.ensures) ∙ sym c.key_at.ensures ∙ e)
+    ∙ ap (ask_entry [] [] names) (sym (pair_key a.area.now a.cells.now (head_of a.h) a.count))
+
+pub returns-in-Word : goal.returns-in-Word
+returns-in-Word c =
+    let a = c.args in
+    let names = names_in a.area.now a.cells.now (head_of a.h) a.count in
+    ap entries_answer (c.ask_name.ensures ∙ ap (name_asked a.area.now names) c.payload.ensures)
+    ∙ read_as (goal.at.returns-in-Word c).After-key_at c.in-Word.is
+
+pub returns-in-Number : goal.returns-in-Number
+returns-in-Number c = read_as (goal.at.returns-in-Number c).After-key_at c.in-Number.is
+
+pub returns-in-Not : goal.returns-in-Not
+returns-in-Not c = read_as (goal.at.returns-in-Not c).After-key_at c.in-Not.is
