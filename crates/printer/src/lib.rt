@@ -1,6 +1,8 @@
 // The printed list (01, printed list): `def f(a, /, b, *args, k, **kwargs)` is printed as it stands between the brackets. The items are those
 // given by position only and behind them `/`, those given either way, `*args` or `*`, those given by name only, `**kwargs`.
 // Reworked from starlark 0.14.2, src/eval/runtime/params/display.rs and spec.rs (parameters_str), Apache-2.0.
+#![tactic(auto)]
+
 ghost use Rattle.std.specs.Prelude.{◌≡◌, ◌≤◌};
 ghost use Rattle.builder.specs.Params.{parameters_in};
 ghost use Rattle.printer.specs.Line.{Room, Added};
