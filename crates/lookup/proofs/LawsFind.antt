@@ -153,15 +153,15 @@ module _ (area bytes : List ℕ) (code style name : ℕ) where
 -- ---- the bytes of a candidate, from byte j on
 
 module _ (area bytes : List ℕ) (start size j : ℕ) (e : start + size ≤ length area) (l : length bytes ≡ size) (h : j < size) where
-  part_at : get_or (take size (drop start area)) j 0 ≡ get_or area (start + j) 0
-  part_at = rw (get_or-take, get_or-drop)
+  part_at_lem : get_or (take size (drop start area)) j 0 ≡ get_or area (start + j) 0
+  part_at_lem = rw (get_or-take, get_or-drop)
 
   pub bytes_differ
       : (get_or bytes j 0 ≡ get_or area (start + j) 0 → ⊥)
       → same_bytes (drop j bytes) (drop j (take size (drop start area))) ≡ false
   bytes_differ n =
       same_bytes_differs bytes (take size (drop start area)) j (omega arith)
-      (rw (length_part area start size e) h) (λ d. n (d ∙ part_at))
+      (rw (length_part area start size e) h) (λ d. n (d ∙ part_at_lem))
 
   pub bytes_next
       : get_or bytes j 0 ≡ get_or area (start + j) 0
@@ -169,7 +169,7 @@ module _ (area bytes : List ℕ) (start size j : ℕ) (e : start + size ≤ leng
       ≡ same_bytes (drop (j + 1) bytes) (drop (j + 1) (take size (drop start area)))
   bytes_next d =
       rw add-one
-      (same_bytes_next bytes (take size (drop start area)) j (omega arith) (rw (length_part area start size e) h) (d ∙ sym part_at))
+      (same_bytes_next bytes (take size (drop start area)) j (omega arith) (rw (length_part area start size e) h) (d ∙ sym part_at_lem))
 
 pub bytes_end
     : (area bytes : List ℕ) (start size j : ℕ) → start + size ≤ length area → length bytes ≡ size → size ≤ j

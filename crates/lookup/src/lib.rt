@@ -1,5 +1,7 @@
 // Looking up a name (01, on `SymbolMap`): which parameter a call means by it, if any. A plain search stands in for the hash table.
 // Reworked from starlark 0.14.2, src/collections/symbol/map.rs, Apache-2.0.
+#![tactic(auto)]
+
 ghost use Rattle.std.specs.Prelude.{◌≡◌, true, min, ◌-◌, ◌<◌, ◌≤◌};
 ghost use Rattle.cells.specs.Text.{part_at};
 ghost use Rattle.lookup.specs.Lookup.{fits_at, first_at, find_in, find_among, OneFits};
