@@ -1,5 +1,7 @@
 // The records that two sheets describe (01, sheets and the program bind): out of the rows of a sheet that was judged right, the
 // cells of its record and the texts that its area holds.
+#![tactic(auto)]
+
 ghost use Rattle.std.specs.Prelude.{◌≡◌, ◌+◌, ◌≤◌, length};
 ghost use Rattle.cells.specs.Out.{stored, Put};
 ghost use Rattle.sheet_lines.specs.Header.{columns_of};

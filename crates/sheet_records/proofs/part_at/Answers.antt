@@ -5,8 +5,7 @@ use Prim.Native.Nat.{ℕ, zero, suc}
 use borrow.Author.Rules.{rules}
 use Rattle.rules.specs.SheetRows.{entry}
 use Rattle.sheet_records.specs.Call.{part_at}
-use Rattle.sheet_records.proofs.part_at.Statement.{statement}
-use Rattle.sheet_records.proofs.part_at.Tie as tie
+use Rattle.sheet_records.proofs.part_at.Goals as goal
 
 last : (n : ℕ) → (n ≡ 0 → ⊥) → (n ≡ 1 → ⊥) → (n ≡ 2 → ⊥) → entry ≡ part_at n
 last zero a b c = absurd (a refl)
@@ -14,8 +13,5 @@ last (suc zero) a b c = absurd (b refl)
 last (suc (suc zero)) a b c = absurd (c refl)
 last (suc (suc (suc n))) a b c = refl
 
-returns-4 : tie.Need-returns-4
-returns-4 c = let r = c.match.rest in last c.before.args.part r.0.0.1 r.0.1 r.1
-
-pub part-at-spec : {M : Type 1} → statement M
-part-at-spec = tie.close (tie.spec (λ c. search rules) (λ c. search rules) (λ c. search rules) returns-4)
+pub returns-in_default : goal.returns-in_default
+returns-in_default c = search (rules, last)
