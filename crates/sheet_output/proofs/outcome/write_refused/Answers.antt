@@ -1,0 +1,16 @@
+-- `sheet_output::outcome::write_refused` meets its contract: the number and the name are those of the answer. Assumes nothing.
+use mathlib.Core.Path.{ap, ap₂}
+use native.Mathlib.Omega.{arith}
+use lib.ListN.{length}
+use Rattle.rules.specs.SheetOutput.{refusal_text}
+use Rattle.cells.proofs.LawsOut.{put_same}
+use Rattle.sheet_output.specs.Outcome.{refused_shown}
+use Rattle.sheet_output.proofs.LawsOutcome.{name_length}
+use Rattle.sheet_output.proofs.outcome.write_refused.Goals as goal
+
+pub write_refusal-requires : goal.write_refusal-requires
+write_refusal-requires c = let a = c.args in omega (arith, c.requires, ap length c.name_of.ensures.bytes, name_length a.spec.now a.call.now a.answer)
+
+pub returns : goal.returns
+unfolding refused_shown
+returns c = put_same _ _ (ap₂ refusal_text c.number_of.ensures c.name_of.ensures.bytes) c.write_refusal.ensures
