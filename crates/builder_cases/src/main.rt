@@ -1,5 +1,7 @@
 // The limits of parameter records that 01 has programs try rather than proofs, a few of each refusal 1 to 7, and lookups of
 // each kind. A line says what was asked and the number of the refusal, 0 for none, or the index found.
+#![tactic(auto)]
+
 use builder::spec::ParametersSpec;
 use cells::answer::Answer;
 use lookup::Finding;
