@@ -8,7 +8,7 @@ use Prim.Native.Nat.{ℕ, min}
 use native.Mathlib.Omega.{arith}
 use lib.Dec.{eqb, ltb}
 use lib.ListN.{length}
-use Rattle.rules.specs.Text.{bytes_at, inside, text_in, among}
+use Rattle.rules.specs.Text.{bytes_at, text_in, among}
 use Rattle.rules.specs.Value.{Value, call_text, well_formed_key}
 use Rattle.rules.specs.Answer.{fine, refuse, name, call_area, part_of}
 use Rattle.rules.specs.CallRecord.{Named, word, number, key_in}

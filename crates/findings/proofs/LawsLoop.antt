@@ -7,7 +7,7 @@ use Prim.Native.Nat.{ℕ, ◌+◌, ◌*◌, ◌-◌, min, ◌≤◌, ◌<◌}
 use native.Mathlib.Omega.{arith}
 use lib.Dec.{eqb}
 use lib.ListN.{length, length-append}
-use Rattle.rules.specs.Text.{bytes_at, inside, text_in, among}
+use Rattle.rules.specs.Text.{bytes_at, text_in, among}
 use Rattle.rules.specs.Value.{Value, call_text, value_width, well_formed_key}
 use Rattle.rules.specs.Answer.{refuse, ◌then◌, Detail}
 use Rattle.rules.specs.CallRecord.{Head, head_width, pair_width, Named, word, number, word_of, key_in, entry_in, named_in, read_pair}
