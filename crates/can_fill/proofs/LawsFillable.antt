@@ -7,16 +7,15 @@ use mathlib.Core.Bool.{true}
 use mathlib.Core.List.{List, map}
 use Prim.Native.Nat.{ℕ, ◌+◌, ◌*◌, ◌<◌}
 use native.Mathlib.Omega.{arith}
-use lib.ListN.{length, drop}
+use lib.ListN.{drop}
 use Rattle.rules.specs.Cells.{read_each}
 use Rattle.rules.specs.Text.{inside}
 use Rattle.rules.specs.Answer.{fine, refuse, Detail}
-use Rattle.rules.specs.CallRecord.{Head, Pair, pair_width, read_head, read_pair, read_call, named_in}
+use Rattle.rules.specs.CallRecord.{Head, pair_width, read_head, read_pair, read_call, named_in}
 use Rattle.rules.specs.CallQuestions.{ask_form}
 use Rattle.rules.specs.ParameterQuestions.{ask_parameters, list_of}
 use Rattle.rules.specs.CanFill.{can_fill, Filling, refused_filling, answered, fillable}
 use Rattle.cells.specs.Record.{pair_at}
-use Rattle.cells.specs.Listed.{listed}
 use Rattle.builder.specs.Params.{parameters_in}
 use Rattle.builder.specs.declared.spec.ParametersSpec.{ParametersSpec}
 use Rattle.calls.specs.Head.{named_from}

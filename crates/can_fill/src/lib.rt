@@ -1,5 +1,7 @@
 // Can-fill (01, collector and can-fill): whether a call fills a parameter list, by how many positionals and which names are written.
 // Reworked from starlark 0.14.2, src/eval/runtime/params/spec.rs (can_fill_with_args_impl), Apache-2.0.
+#![tactic(auto)]
+
 ghost use Rattle.std.specs.Prelude.{◌≡◌, true};
 ghost use Rattle.rules.specs.CanFill.{can_fill, fillable};
 ghost use Rattle.builder.specs.Params.{parameters_in};
