@@ -16,7 +16,7 @@ use Rattle.rules.specs.Answer.{Answer, fine, refuse, none, ◌then◌, ask}
 use Rattle.rules.specs.CallRecord.{Head, read_head, read_call, call_in, entry_in, no_star, no_double, star_of, double_of, items_of, Call, Named, Key, Entry, word, number, word_of, words, entries_of, positionals_of, named_of}
 use Rattle.rules.specs.Parameters.{Parameter, positional_count}
 use Rattle.rules.specs.Placement as rules
-use Rattle.rules.specs.Board.{board_after, board_least_64, written}
+use Rattle.rules.specs.Board.{board_after, board_least_64}
 use Rattle.rules.specs.ParameterQuestions.{ask_parameters, list_of}
 use Rattle.rules.specs.CallQuestions.{names_differ, ask_call, ask_board}
 use Rattle.rules.specs.Binding.{ask_binding}
