@@ -1,6 +1,8 @@
 // Fixed cases for the accessors, the printed list and the slot reader, played on the compiled code and compared with what they have to end
 // in: answer, detail, the name's bytes, and every cell or byte of the output. The crate's standard input has the cases, and its head says how
 // it is laid out and where they come from. A line names each difference; the last lines count the cases.
+#![tactic(auto)]
+
 mod accesses;
 mod boards;
 mod lists;
