@@ -16,7 +16,7 @@ use Rattle.rules.specs.Listing.{all, any, tally, any_from, map_from}
 use Rattle.rules.specs.Cells.{write_each}
 use Rattle.rules.specs.Text.{among, differ}
 use Rattle.rules.specs.Value.{Value, value_cells, no_value}
-use Rattle.rules.specs.Answer.{fine, ◌then◌, name}
+use Rattle.rules.specs.Answer.{fine, ◌then◌}
 use Rattle.rules.specs.CallRecord.{Named, Call, Entry, Key, word, number, word_of, words, entries_of, positionals_of, named_of}
 use Rattle.rules.specs.Parameters.{Parameter, positional, nameable, positional_count, has_args, has_kwargs}
 use Rattle.rules.specs.Lookup.{names, known}

@@ -1,5 +1,7 @@
 // A list prepared once and bound against many times (01, collector): a record's list is laid out in lent cells, and calls are bound
 // against the cells. They come back from outside, so they are asked before they are believed.
+#![tactic(auto)]
+
 ghost use Rattle.calls.specs.Head.{head_of};
 ghost use Rattle.collector.specs.Collect.{Ends, bound_to};
 ghost use Rattle.prepared.specs.Prepared.{list_in, bound_prepared};
