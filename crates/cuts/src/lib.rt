@@ -1,4 +1,6 @@
 // Demand 3 in code: P and N are cut into the arguments of one call, the call is collected, and can-fill is asked of P and N written out whole.
+#![tactic(auto)]
+
 ghost use Rattle.std.specs.Prelude.{◌≡◌};
 ghost use Rattle.cuts.specs.Record.{cut_of};
 ghost use Rattle.cuts.specs.Play.{sizes_right, records_pass, Tried, Playing};
