@@ -1,5 +1,7 @@
 // Two sheets bound and read (01, sheets and the program bind): from the bytes of an input to the text that tells how the call binds, or to the
 // two records, in lent outputs.
+#![tactic(auto)]
+
 ghost use Rattle.std.specs.Prelude.{◌≡◌};
 ghost use Rattle.sheets.specs.Bind.{Binding, ReadRoom, TextOfRead};
 ghost use Rattle.sheets.specs.Read.{room_for, SheetsReading};
