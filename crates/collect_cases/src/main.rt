@@ -1,6 +1,8 @@
 // Fixed cases for collection and can-fill, played on the compiled code and compared with what they have to end in: answer, detail, the
 // name's bytes, and every cell of the board. The crate's standard input has the cases, and its head says how it is laid out and where
 // they come from. A line names each difference; the last lines count the cases.
+#![tactic(auto)]
+
 mod cut;
 mod ending;
 mod play;
