@@ -1,5 +1,7 @@
 // The library's functions for C and Rust (include/liuwdom.h says what each takes and answers). None asks anything of its caller: cells and
 // bytes may hold anything, every refusal leaves boards and outputs as they were, and the answer's eight cells are written in every case.
+#![tactic(auto)]
+
 ghost use Rattle.std.specs.Prelude.{◌≡◌};
 ghost use Rattle.rules.specs.Collection.{collection, board_left};
 ghost use Rattle.rules.specs.CanFill.{fillable};

@@ -2,12 +2,8 @@
 -- Assumes nothing.
 use mathlib.Core.Path.{refl}
 use Rattle.rules.specs.Text.{start_of, size_of}
-use Rattle.liuwdom.proofs.answer.Told.write.Statement.{statement}
-use Rattle.liuwdom.proofs.answer.Told.write.Tie as tie
+use Rattle.liuwdom.proofs.answer.Told.write.Goals as goal
 
-returns : tie.Need-returns
+pub returns : goal.returns
 unfolding start_of size_of
 returns c = record { answer = refl; number = refl }
-
-pub write_spec : {M : Type 1} → statement M
-write_spec = tie.close (tie.spec returns)

@@ -2,12 +2,8 @@
 -- Assumes nothing.
 use mathlib.Core.Path.{refl}
 use Rattle.rules.specs.Text.{start_of, size_of}
-use Rattle.liuwdom.proofs.answer.plain.Statement.{statement}
-use Rattle.liuwdom.proofs.answer.plain.Tie as tie
+use Rattle.liuwdom.proofs.answer.plain.Goals as goal
 
-returns : tie.Need-returns
+pub returns : goal.returns
 unfolding start_of size_of
 returns c = refl
-
-pub plain-spec : {M : Type 1} → statement M
-plain-spec = tie.close (tie.spec returns)
