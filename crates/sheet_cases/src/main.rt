@@ -1,6 +1,8 @@
 // Fixed sheets, bound by the compiled code and compared byte by byte with what they have to print; the bytes behind that must be as they were.
 // The crate's standard input has the cases, and its head says how it is laid out and where they come from. A line names each difference; the
 // last line counts the cases.
+#![tactic(auto)]
+
 use replay::compare::{Place, same, same_bytes};
 use replay::numbers::piece;
 use replay::sheets::{Case, first_case, next_case, room_for_text};
