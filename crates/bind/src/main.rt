@@ -1,4 +1,6 @@
 // The program `bind` (01, sheets and the program bind): two sheets on standard input, how the call binds on standard output.
+#![tactic(auto)]
+
 use sheets::{OUTPUT, bind_read};
 
 // One byte past the longest input that is taken, so that a longer one is seen to be too long.
