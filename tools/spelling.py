@@ -6,7 +6,8 @@ usage: python3 tools/spelling.py           at the top of the repository, once, a
 
 A name of the repository's own is one that a file of specs/ or proofs/ declares. Its words are joined by '_' in place of a capital or a dash;
 types, modules and whatever begins with a capital keep their spelling, and so do the names of goals in a Proof.antt, which Rattle makes.
-Functions of src/, exported names, strings, inputs and outputs are left alone. Two old names that would fall together stop the script.
+Functions of src/, exported names, strings, inputs and outputs are left alone. A lemma that would fall together with a definition of the same file
+ends in `_lem`. At the end each crate is laid out by `rt fmt`.
 """
 import collections
 import os
