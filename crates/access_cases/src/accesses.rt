@@ -1,5 +1,5 @@
 // One call record, asked by six accessors.
-use accessors::answer::{Accessed, name_of};
+use accessors::answer::{FunctionError, name_of};
 use accessors::len::len;
 use accessors::names_map::names_map;
 use accessors::no_named_args::no_named_args;
@@ -52,12 +52,9 @@ fn play_accessors(
     given: Given,
 ) -> bool {
     let mut same = true;
-    let mut which = 0;
-    while which < 6 {
+    for which in 0..6 {
         let here = place.at_part(which);
-        let one = play_one(numbers, at, here, which, cells, call, given);
-        same = same & one;
-        which += 1;
+        same &= play_one(numbers, at, here, which, cells, call, given);
     }
     same
 }
@@ -80,7 +77,13 @@ fn play_one(
     told & named & kept
 }
 
-fn access(which: u64, cells: &[u64], call: &[u8], given: Given, out: &mut [u64]) -> Accessed {
+fn access(
+    which: u64,
+    cells: &[u64],
+    call: &[u8],
+    given: Given,
+    out: &mut [u64],
+) -> Result<usize, FunctionError> {
     match which {
         0 => names_map(cells, call, out),
         1 => positions(cells, call, out),
@@ -92,16 +95,16 @@ fn access(which: u64, cells: &[u64], call: &[u8], given: Given, out: &mut [u64])
 }
 
 // An answer as the input has it: 0 and the number, or the refusal's number, and its detail.
-fn told_by(answer: Accessed) -> [u64; 5] {
+fn told_by(answer: Result<usize, FunctionError>) -> [u64; 5] {
     match answer {
-        Accessed::Answered(n) => [0, n as u64, 0, 0, 0],
-        Accessed::Record(question) => [question, 0, 0, 0, 0],
-        Accessed::ArgsArrayIsNotIterable => [15, 0, 0, 0, 0],
-        Accessed::KwArgsIsNotDict => [17, 0, 0, 0, 0],
-        Accessed::ArgsValueIsNotString => [18, 0, 0, 0, 0],
-        Accessed::RepeatedArg(name) => [19, name, 0, 0, 0],
-        Accessed::ExtraNamedArg(count, name) => [24, count as u64, name, 0, 0],
-        Accessed::WrongNumberOfArgs(least, most, got) => {
+        Ok(n) => [0, n as u64, 0, 0, 0],
+        Err(FunctionError::Record(question)) => [question.number(), 0, 0, 0, 0],
+        Err(FunctionError::ArgsArrayIsNotIterable) => [15, 0, 0, 0, 0],
+        Err(FunctionError::KwArgsIsNotDict) => [17, 0, 0, 0, 0],
+        Err(FunctionError::ArgsValueIsNotString) => [18, 0, 0, 0, 0],
+        Err(FunctionError::RepeatedArg(name)) => [19, name, 0, 0, 0],
+        Err(FunctionError::ExtraNamedArg(count, name)) => [24, count as u64, name, 0, 0],
+        Err(FunctionError::WrongNumberOfArgs(least, most, got)) => {
             [26, least as u64, most as u64, got as u64, 0]
         }
     }

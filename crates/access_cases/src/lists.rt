@@ -1,5 +1,6 @@
 // One parameter list, printed.
-use printer::{Printed, parameters_str};
+use cells::question::Question;
+use printer::parameters_str;
 use replay::compare::{Place, same_numbers, same_output};
 use replay::numbers::{counted, front_bytes, piece, read_area, take};
 
@@ -23,9 +24,9 @@ pub fn play_list(numbers: &[u64], at: &mut usize, place: Place) -> bool {
 }
 
 // What is printed as the input has it: 0 and the length, or the refusal's number and 0.
-fn told_by(printed: Printed) -> [u64; 5] {
+fn told_by(printed: Result<usize, Question>) -> [u64; 5] {
     match printed {
-        Printed::Refused(question) => [question, 0, 0, 0, 0],
-        Printed::Length(n) => [0, n as u64, 0, 0, 0],
+        Ok(n) => [0, n as u64, 0, 0, 0],
+        Err(question) => [question.number(), 0, 0, 0, 0],
     }
 }

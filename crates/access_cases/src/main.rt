@@ -48,11 +48,9 @@ fn replay_all(numbers: &[u64]) {
 fn section(numbers: &[u64], at: &mut usize, index: u64) -> Tally {
     let cases = take(numbers, at);
     let mut tally = Tally::new();
-    let mut i = 0;
-    while i < cases {
+    for i in 0..cases {
         let same = play(numbers, at, index, Place::new(index, i));
         tally = tally.add(Played::single(same));
-        i += 1;
     }
     tally
 }

@@ -1,5 +1,5 @@
 // A walk of the slot reader over some cells.
-use reader::{Next, Reading, read_is_eof, read_next, read_next_opt};
+use reader::{ReadError, Reading, read_is_eof, read_next, read_next_opt};
 use replay::compare::{Place, same_numbers};
 use replay::numbers::{counted, take};
 
@@ -9,13 +9,10 @@ pub fn play_walk(numbers: &[u64], at: &mut usize, place: Place) -> bool {
     let reads = take(numbers, at);
     let mut fine = true;
     let mut position = 0;
-    let mut k = 0;
-    while k < reads {
+    for k in 0..reads {
         let told = told_at(take(numbers, at), slots, position);
-        let one = same_numbers(numbers, at, place.at_part(k), b"number", 4, told);
-        fine = fine & one;
+        fine &= same_numbers(numbers, at, place.at_part(k), b"number", 4, told);
         position = told[3] as usize;
-        k += 1;
     }
     fine
 }
@@ -36,12 +33,11 @@ fn told_at(which: u64, slots: &[u64], position: usize) -> [u64; 5] {
 }
 
 pub fn told_by(reading: Reading) -> [u64; 5] {
-    let next = reading.next;
     let at = reading.at as u64;
-    match next {
-        Next::Value(pair) => [1, pair.kind, pair.payload, at, 0],
-        Next::Empty => [0, 0, 0, at, 0],
-        Next::NoMore => [27, 0, 0, at, 0],
-        Next::Unfilled => [28, 0, 0, at, 0],
+    match reading.next {
+        Ok(Some(pair)) => [1, pair.kind, pair.payload, at, 0],
+        Ok(None) => [0, 0, 0, at, 0],
+        Err(ReadError::NoMore) => [27, 0, 0, at, 0],
+        Err(ReadError::Unfilled) => [28, 0, 0, at, 0],
     }
 }

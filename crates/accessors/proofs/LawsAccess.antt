@@ -9,8 +9,9 @@ use native.Mathlib.Omega.{arith}
 use borrow.Author.Tests.{eq-eqb, ne_eqb, le-leb, lt-leb, leb-true}
 use lib.Dec.{leb, eqb}
 use lib.ListN.{length}
+use Rattle.std.specs.Prelude.{Ok, Err}
 use Rattle.rules.specs.Cells.{over}
-use Rattle.rules.specs.Answer.{Answer, fine, refuse, none, Detail, ◌then◌, ask}
+use Rattle.rules.specs.Answer.{Answer, fine, refuse, none, ◌then◌, ask}
 use Rattle.rules.specs.CallRecord.{Head, read_head}
 use Rattle.rules.specs.Board.{board_least_64}
 use Rattle.rules.specs.CallQuestions.{ask_call, ask_board}
@@ -20,24 +21,23 @@ use Rattle.rules.specs.Accessors.{denied, gives, access_of, ask_writing, len}
 use Rattle.rules.proofs.LawsAnswer.{then_left, then_right, ask_true}
 use Rattle.rules.proofs.LawsNumbers.{number_in, refuses_in, then_by, number_by, wider_in, call_in_lem, board_in}
 use Rattle.calls.proofs.LawsNamed.{passed_star, passed_double}
-use Rattle.accessors.specs.Answer.{is_numbered, access_in, Accessing}
-use Rattle.accessors.specs.declared.answer.Accessed.{Accessed}
-use Rattle.accessors.specs.declared.answer.Accessed.TheVariants.{Answered, Record}
+use Rattle.accessors.specs.Answer.{error_number, error_detail, record_numbered, numbered, Accessing}
+use Rattle.accessors.specs.declared.answer.FunctionError.{FunctionError}
 
 -- ---- an answer, and the output
 
 module _ (asked : Answer) (k : ℕ) (written before : List ℕ) where
   -- a refusal leaves the output as it was
-  pub accessing_denied : (r : Accessed) (n : ℕ) (d : Detail) → asked ≡ refuse n d → access_in r ≡ denied n d → is_numbered r ≡ true → Accessing (access_of asked k) written before before r
-  accessing_denied r n d e a m = subst (λ x. Accessing (access_of x k) written before before r) (sym e) (record { answering = record { answer = a; numbered = m }; output = refl })
+  pub accessing_denied : (e : FunctionError) → asked ≡ refuse (error_number e) (error_detail e) → numbered e ≡ true → Accessing (access_of asked k) written before before (Err e)
+  accessing_denied e is n = subst (λ x. Accessing (access_of x k) written before before (Err e)) (sym is) (record { answering = record { answer = refl; numbered = n }; output = refl })
 
-  pub accessing_gives : (j : ℕ) (after : List ℕ) → asked ≡ fine → j ≡ k → after ≡ over written before → Accessing (access_of asked k) written before after (Answered j)
-  accessing_gives j after e s o = subst (λ x. Accessing (access_of x k) written before after (Answered j)) (sym e) (record { answering = record { answer = ap gives s; numbered = refl }; output = o })
+  pub accessing_gives : (j : ℕ) (after : List ℕ) → asked ≡ fine → j ≡ k → after ≡ over written before → Accessing (access_of asked k) written before after (Ok j)
+  accessing_gives j after e s o = subst (λ x. Accessing (access_of x k) written before after (Ok j)) (sym e) (record { answering = record { answer = ap gives s; numbered = refl }; output = o })
 
 -- ---- 9 to 14
 
 -- what 9 to 13 refuse with
-pub call_numbered : (cells area : List ℕ) (n : ℕ) → ask_call 64 cells area ≡ refuse n none → is_numbered (Record n) ≡ true
+pub call_numbered : (cells area : List ℕ) (n : ℕ) → ask_call 64 cells area ≡ refuse n none → record_numbered n ≡ true
 call_numbered cells area n e =
     ap (λ b. b || eqb n 25) (number_by (number_in 9 14) (ask_call 64 cells area) n none (wider_in 9 13 9 14 (ask_call 64 cells area) (omega arith) (omega arith) (call_in_lem 64 cells area)) e)
 
@@ -49,7 +49,7 @@ module _ (cells area out : List ℕ) where
       then_by (number_in 9 14) (ask_call 64 cells area) (ask_board 64 64 out) (wider_in 9 13 9 14 (ask_call 64 cells area) (omega arith) (omega arith) (call_in_lem 64 cells area))
       (wider_in 14 14 9 14 (ask_board 64 64 out) (omega arith) (omega arith) (board_in 64 64 out))
 
-  pub writing_numbered : (n : ℕ) → ask_writing 64 64 cells area out ≡ refuse n none → is_numbered (Record n) ≡ true
+  pub writing_numbered : (n : ℕ) → ask_writing 64 64 cells area out ≡ refuse n none → record_numbered n ≡ true
   writing_numbered n e = ap (λ b. b || eqb n 25) (number_by (number_in 9 14) (ask_writing 64 64 cells area out) n none writing_in e)
 
   output_asked : ask_board 64 64 out ≡ ask 14 (leb 896 (length out))

@@ -1,13 +1,16 @@
 -- Laws of the keys of a call's dictionary (01, questions 18 and 19 as accessors ask them), in this order: a key that is well formed, by what
--- reading it answered, and 18 and 19 of one entry; a name held against those before it; one more entry in the loop over the entries; and
+-- reading it answered, and 18 and 19 of one entry; a name held against those before it, and the keys that are texts; one more entry in the loop over the entries; and
 -- what holds where none is refused. Assumes nothing.
 use mathlib.Core.Path.{◌≡◌, refl, sym, ap, subst, ◌∙◌}
-use mathlib.Core.Bool.{Bool, true, false, cond, ◌||◌}
+use mathlib.Core.Bool.{Bool, true, false, cond}
 use mathlib.Core.List.{List, [], ◌∷◌, ◌++◌}
-use Prim.Native.Nat.{ℕ, ◌+◌, ◌-◌, ◌≤◌, ◌<◌}
+use Prim.Native.Nat.{ℕ, zero, suc, ◌+◌, ◌-◌, ◌≤◌, ◌<◌}
 use native.Mathlib.Omega.{arith}
 use borrow.Author.Tests.{ltb-true, ltb-false}
 use lib.Dec.{ltb}
+use native.Mathlib.Numerals.{add-one}
+use Rattle.std.specs.List.{list_any, list_all, range_with_len}
+use Rattle.std.specs.Prelude.{Option, Some, None, Result, Ok, Err}
 use Rattle.rules.specs.Listing.{all}
 use Rattle.rules.specs.Text.{payload_of, bytes_at, inside, text_in, same_bytes, among}
 use Rattle.rules.specs.Value.{Value, well_formed_key}
@@ -22,37 +25,31 @@ use Rattle.rules.proofs.LawsAnswer.{fine_refuse, then_left, then_right}
 use Rattle.cells.specs.Text.{text_of, part_at}
 use Rattle.cells.specs.Record.{pair_at, key_at}
 use Rattle.cells.specs.Listed.{listed}
-use Rattle.cells.specs.declared.value.ReadKey.{ReadKey}
-use Rattle.cells.specs.declared.value.ReadKey.TheVariants.{Word, Number, Not}
+use Rattle.cells.specs.declared.value.Key as read
+use Rattle.cells.specs.declared.value.Key.TheVariants.{Word, Number}
 use Rattle.cells.proofs.LawsListed.{listed_next, listed_end, listed_more}
 use Rattle.calls.specs.Places.{named_at}
 use Rattle.calls.specs.Named.{pair_named, pair_entry, names_in, entries_in}
 use Rattle.calls.proofs.LawsKeys.{Seen, as_word, as_number, seen}
 use Rattle.calls.proofs.LawsNamed.{key_inside, word_text}
 use Rattle.answers.specs.Answer.{place_of}
-use Rattle.accessors.specs.Entries.{KeysFormed, NamesInside, entries_answer}
-use Rattle.accessors.specs.declared.entries.Entries.{Entries}
-use Rattle.accessors.specs.declared.entries.Entries.TheVariants.{Fine, NotText, Repeated}
+use Rattle.answers.specs.declared.answer.EntryRefusal.{EntryRefusal}
+use Rattle.answers.specs.declared.answer.EntryRefusal.TheVariants.{NotText, Repeated}
+use Rattle.accessors.specs.Entries.{KeysFormed, NamesInside, word_read, entries_answer}
 
 -- ---- a key that was read
 
--- was a text read?
-abbrev pub word_read : ReadKey → Bool
-word_read (Word t) = true
-word_read (Number z) = false
-word_read Not = false
-
 -- 19 of a text, and 18 and 19 of a key that was read
-abbrev pub name_asked : List ℕ → List Named → ℕ → Entries
-name_asked area before payload = cond (among (part_at area payload) (texts_of before)) (Repeated payload) Fine
+abbrev pub name_asked : List ℕ → List Named → ℕ → Result Unit EntryRefusal
+name_asked area before payload = cond (among (part_at area payload) (texts_of before)) (Err (Repeated payload)) (Ok tt)
 
-abbrev pub key_asked : List ℕ → List Named → ReadKey → Entries
-key_asked area before (Word t) = name_asked area before (payload_of t.start t.len)
-key_asked area before (Number z) = NotText
-key_asked area before Not = NotText
+abbrev pub key_asked : List ℕ → List Named → Option read.Key → Result Unit EntryRefusal
+key_asked area before (Some (Word t)) = name_asked area before (payload_of t.start t.len)
+key_asked area before (Some (Number z)) = Err NotText
+key_asked area before None = Err NotText
 
 module _ (area cells : List ℕ) (at : ℕ) (formed : well_formed_key area (pair_at cells at) ≡ true) where
-  pub text_read : (r : ReadKey) → key_at area cells at ≡ r → word_read r ≡ is_word (key_in area (pair_at cells at))
+  pub text_read : (r : Option read.Key) → key_at area cells at ≡ r → word_read r ≡ is_word (key_in area (pair_at cells at))
   unfolding key_at
   text_read r e = go (seen area (pair_at cells at) formed)
     where
@@ -61,11 +58,11 @@ module _ (area cells : List ℕ) (at : ℕ) (formed : well_formed_key area (pair
       go (as_number d k) = ap word_read (sym e ∙ d) ∙ sym (ap is_word k)
 
   -- the answer is that of 18 and 19
-  pub entry_read : (before : List Named) (r : ReadKey) → key_at area cells at ≡ r → entries_answer (key_asked area before r) ≡ ask_entry [] [] before (key_in area (pair_at cells at))
+  pub entry_read : (before : List Named) (r : Option read.Key) → key_at area cells at ≡ r → entries_answer (key_asked area before r) ≡ ask_entry [] [] before (key_in area (pair_at cells at))
   unfolding key_at text_of text_in part_of names_filled
   entry_read before r e = go (seen area (pair_at cells at) formed)
     where
-      pick : (b : Bool) (payload : ℕ) → entries_answer (cond b (Repeated payload) Fine) ≡ cond b (refuse 19 (name (place_of call_area payload))) fine
+      pick : (b : Bool) (payload : ℕ) → entries_answer (cond b (Err (Repeated payload)) (Ok tt)) ≡ cond b (refuse 19 (name (place_of call_area payload))) fine
       pick true payload = refl
       pick false payload = refl
 
@@ -73,7 +70,7 @@ module _ (area cells : List ℕ) (at : ℕ) (formed : well_formed_key area (pair
       go (as_word d k b) =
           ap (λ x. entries_answer (key_asked area before x)) (sym e ∙ d)
           ∙ ap (λ n. entries_answer (name_asked area before n)) (payload_of_halves (pair_at cells at).payload)
-          ∙ ap (λ bytes. entries_answer (cond (among bytes (texts_of before)) (Repeated (pair_at cells at).payload) Fine)) b
+          ∙ ap (λ bytes. entries_answer (cond (among bytes (texts_of before)) (Err (Repeated (pair_at cells at).payload)) (Ok tt))) b
           ∙ pick (among (bytes_at area (pair_at cells at).payload) (texts_of before)) (pair_at cells at).payload
           ∙ sym (ap (ask_entry [] [] before) k)
       go (as_number d k) = ap (λ x. entries_answer (key_asked area before x)) (sym e ∙ d) ∙ sym (ap (ask_entry [] [] before) k)
@@ -97,17 +94,28 @@ module _ (area cells : List ℕ) (h : Head) where
       ap (λ b. word_of (cond b (word (text_in area (pair_at cells (named_at 64 h k)).payload)) (number (pair_at cells (named_at 64 h k)).payload)) (pair_entry area cells h k).value)
       (sym (word_text area (pair_at cells (named_at 64 h k))) ∙ e)
 
-  -- ---- a name among the first `count` names of N, looked at one by one
+  -- ---- a name among names of N, and entries whose keys are texts, looked at one by one
 
-  module _ (count : ℕ) (bytes : List ℕ) where
-    pub named_next : (k : ℕ) → k < count
-        → among bytes (texts_of (listed (pair_named area cells h) k (count - k))) ≡ (same_bytes bytes (pair_named area cells h k).name.bytes || among bytes (texts_of (listed (pair_named area cells h) (k + 1) (count - (k + 1)))))
-    unfolding texts_of
-    named_next k below = ap (λ vs. among bytes (texts_of vs)) (listed_next (pair_named area cells h) k count below)
+  -- is the name of pair k these bytes, as the code reads it?
+  abbrev pub has_name : List ℕ → ℕ → Bool
+  has_name bytes k = same_bytes bytes (part_at area (pair_at cells (named_at 64 h k)).payload)
 
-    pub named_end : (k : ℕ) → count ≤ k → among bytes (texts_of (listed (pair_named area cells h) k (count - k))) ≡ false
-    unfolding texts_of
-    named_end k past = ap (λ vs. among bytes (texts_of vs)) (listed_end (pair_named area cells h) k count past)
+  pub names_any : (bytes : List ℕ) (i n : ℕ) → ((j : ℕ) → j < i + n → inside area (pair_at cells (named_at 64 h j)).payload ≡ true)
+      → list_any (has_name bytes) (range_with_len i n) ≡ among bytes (texts_of (listed (pair_named area cells h) i n))
+  unfolding texts_of
+  names_any bytes i zero w = refl
+  names_any bytes i (suc n) w = rw (add-one, pair_bytes i (w i (omega arith)), names_any bytes (suc i) n (λ j b. w j (omega arith)))
+
+  -- is the key of pair k a text, as the code reads it?
+  abbrev pub has_text : ℕ → Bool
+  has_text k = word_read (key_at area cells (named_at 64 h k))
+
+  pub keys_all : (i n : ℕ) → ((j : ℕ) → j < i + n → well_formed_key area (pair_at cells (named_at 64 h (h.n + j))) ≡ true)
+      → list_all has_text (range_with_len (h.n + i) n) ≡ all (λ e. is_word e.key) (entries_in area cells h i n)
+  keys_all i zero w = refl
+  keys_all i (suc n) w =
+      let next : h.n + i + 1 ≡ h.n + suc i = omega arith in
+      rw (next, text_read area cells (named_at 64 h (h.n + i)) (w i (omega arith)) (key_at area cells (named_at 64 h (h.n + i))) refl, pair_key (h.n + i), keys_all (suc i) n (λ j b. w j (omega arith)))
 
   -- ---- one more entry
 

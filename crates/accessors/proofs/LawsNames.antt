@@ -9,11 +9,12 @@ use native.Mathlib.Nat.{zero-add}
 use native.Mathlib.Omega.{arith}
 use lib.ListN.{length, drop}
 use lib.Seq.{drop-drop}
+use Rattle.std.specs.Prelude.{Ok, Err}
 use Rattle.rules.specs.Listing.{all}
 use Rattle.rules.specs.Cells.{write_each}
 use Rattle.rules.specs.Text.{text_in}
 use Rattle.rules.specs.Value.{value_width, value_cells, read_value, call_text}
-use Rattle.rules.specs.Answer.{Answer, fine, refuse, none, count_and_name, call_area, part_of, Detail, ◌then◌, ask}
+use Rattle.rules.specs.Answer.{Answer, fine, refuse, none, count_and_name, call_area, part_of, ◌then◌, ask}
 use Rattle.rules.specs.CallRecord.{Head, Named, read_head, read_pair, pair_cells, named_in, entries_of, named_of}
 use Rattle.rules.specs.Board.{named_cells}
 use Rattle.rules.specs.CallQuestions.{ask_call}
@@ -21,6 +22,8 @@ use Rattle.rules.specs.Binding.{double_passes, ask_entries, ask_named_remainder}
 use Rattle.rules.specs.Collection.{call_of}
 use Rattle.rules.specs.Accessors.{denied, gives, access_of, ask_writing, is_word, names_map, names_map_cells, no_named_args}
 use Rattle.rules.proofs.LawsRecord.{length_write_each}
+use Rattle.cells.specs.Question.{number_of, refused}
+use Rattle.cells.specs.declared.question.Question.{Question}
 use Rattle.cells.specs.Record.{pair_at}
 use Rattle.cells.specs.Out.{stored}
 use Rattle.cells.proofs.LawsListed.{length_listed}
@@ -30,10 +33,11 @@ use Rattle.calls.specs.Places.{named_at}
 use Rattle.calls.specs.Named.{pair_named, names_in, entries_in}
 use Rattle.calls.proofs.LawsNamed.{passed_few, name_inside_lem, written_listed, entries_listed, names_formed, keys_formed, names_near, N-listed, names_text}
 use Rattle.answers.specs.Answer.{place_of}
-use Rattle.accessors.specs.Answer.{is_numbered, access_in, Accessing}
+use Rattle.answers.specs.declared.answer.EntryRefusal.{EntryRefusal}
+use Rattle.answers.specs.declared.answer.EntryRefusal.TheVariants.{NotText, Repeated}
+use Rattle.accessors.specs.Answer.{entry_denied, error_number, error_detail, numbered, Accessing}
 use Rattle.accessors.specs.Entries.{KeysFormed, NamesInside, NamesText}
-use Rattle.accessors.specs.declared.answer.Accessed.{Accessed}
-use Rattle.accessors.specs.declared.answer.Accessed.TheVariants.{Answered, Record, KwArgsIsNotDict}
+use Rattle.accessors.specs.declared.answer.FunctionError.TheVariants.{Record, KwArgsIsNotDict}
 use Rattle.accessors.proofs.LawsAccess.{accessing_denied, accessing_gives, writing_numbered, writing_call, writing_long, double_refused, double_fine}
 use Rattle.accessors.proofs.LawsEntries.{entries_words}
 
@@ -125,21 +129,21 @@ module _ (cells area out : List ℕ) where
   abbrev asks : Answer
   asks = asking (ask_writing 64 64 cells area out) (ask 17 (double_passes (call_of cells area).double)) (ask_entries [] [] (call_of cells area).named (entries_of (call_of cells area).double))
 
-  pub names_refused : (n : ℕ) → ask_writing 64 64 cells area out ≡ refuse n none → Accessing (names_map 64 64 cells area out) (names_map_cells cells area) out out (Record n)
+  pub names_refused : (q : Question) → ask_writing 64 64 cells area out ≡ refused q → Accessing (names_map 64 64 cells area out) (names_map_cells cells area) out out (Err (Record q))
   unfolding names_map
-  names_refused n e =
-      accessing_denied asks (length (named_of (call_of cells area))) (names_map_cells cells area) out (Record n) n none
-      (ap (λ a. asking a (ask 17 (double_passes (call_of cells area).double)) (ask_entries [] [] (call_of cells area).named (entries_of (call_of cells area).double))) e) refl (writing_numbered cells area out n e)
+  names_refused q e =
+      accessing_denied asks (length (named_of (call_of cells area))) (names_map_cells cells area) out (Record q)
+      (ap (λ a. asking a (ask 17 (double_passes (call_of cells area).double)) (ask_entries [] [] (call_of cells area).named (entries_of (call_of cells area).double))) e) (writing_numbered cells area out (number_of q) e)
 
   module _ (h : Head) (read : h ≡ read_head cells) (passed : ask_writing 64 64 cells area out ≡ fine) where
     call : ask_call 64 cells area ≡ fine
     call = writing_call cells area out passed
 
-    pub names_double : h.double_kind ≡ 2 → Accessing (names_map 64 64 cells area out) (names_map_cells cells area) out out KwArgsIsNotDict
+    pub names_double : h.double_kind ≡ 2 → Accessing (names_map 64 64 cells area out) (names_map_cells cells area) out out (Err KwArgsIsNotDict)
     unfolding names_map
     names_double e =
-        accessing_denied asks (length (named_of (call_of cells area))) (names_map_cells cells area) out KwArgsIsNotDict 17 none
-        (ap₂ (λ a b. asking a b (ask_entries [] [] (call_of cells area).named (entries_of (call_of cells area).double))) passed (double_refused area cells h read call e)) refl refl
+        accessing_denied asks (length (named_of (call_of cells area))) (names_map_cells cells area) out KwArgsIsNotDict
+        (ap₂ (λ a b. asking a b (ask_entries [] [] (call_of cells area).named (entries_of (call_of cells area).double))) passed (double_refused area cells h read call e)) refl
 
     module _ (double : h.double_kind ≡ 2 → ⊥) where
       -- 18 and 19 are what is left
@@ -149,11 +153,16 @@ module _ (cells area out : List ℕ) where
           ∙ ap₂ (ask_entries [] []) (written_listed area cells h read call) (entries_listed area cells h read call)
           ∙ sym e
 
-      pub names_entries : (r : Accessed) (n : ℕ) (d : Detail) → refuse n d ≡ ask_entries [] [] (names_in area cells h h.n) (entries_in area cells h 0 h.d) → access_in r ≡ denied n d → is_numbered r ≡ true
-          → Accessing (names_map 64 64 cells area out) (names_map_cells cells area) out out r
+      pub names_entries : (e : EntryRefusal) → refuse (error_number (entry_denied e)) (error_detail (entry_denied e)) ≡ ask_entries [] [] (names_in area cells h h.n) (entries_in area cells h 0 h.d)
+          → Accessing (names_map 64 64 cells area out) (names_map_cells cells area) out out (Err (entry_denied e))
       unfolding names_map
-      names_entries r n d e a m =
-          accessing_denied asks (length (named_of (call_of cells area))) (names_map_cells cells area) out r n d (entries_left (refuse n d) e) a m
+      names_entries e is =
+          accessing_denied asks (length (named_of (call_of cells area))) (names_map_cells cells area) out (entry_denied e)
+          (entries_left (refuse (error_number (entry_denied e)) (error_detail (entry_denied e))) is) (one_number e)
+        where
+          one_number : (x : EntryRefusal) → numbered (entry_denied x) ≡ true
+          one_number NotText = refl
+          one_number (Repeated name) = refl
 
       module _ (asked : fine ≡ ask_entries [] [] (names_in area cells h h.n) (entries_in area cells h 0 h.d)) where
         texts : all (λ e. is_word e.key) (entries_of (call_of cells area).double) ≡ true
@@ -168,7 +177,7 @@ module _ (cells area out : List ℕ) where
         writing_room = omega (arith, names_few area cells h read call, writing_long cells area out passed)
 
         pub names_written : (after : List ℕ) → after ≡ stored out 0 (write_each named_cells (names_in area cells h (h.n + h.d)))
-            → Accessing (names_map 64 64 cells area out) (names_map_cells cells area) out after (Answered (h.n + h.d))
+            → Accessing (names_map 64 64 cells area out) (names_map_cells cells area) out after (Ok (h.n + h.d))
         unfolding names_map names_map_cells
         names_written after so =
             accessing_gives asks (length (named_of (call_of cells area))) (names_map_cells cells area) out (h.n + h.d) after

@@ -1,14 +1,16 @@
 -- Laws of the accessors that write positionals (01, accessors): `positions` and `optional`, by what each question answered. In this order:
--- the values that are missing, as a list by its elements; what P takes of the output; `positions`; 26; and `optional`.
+-- the values that are missing, and their cells filled; what P takes of the output; `positions`; 26; and `optional`.
 -- `h` is the head that was read. Assumes nothing.
 use mathlib.Core.Path.{◌≡◌, refl, sym, ap, ap₂, ◌∙◌}
 use mathlib.Core.Bool.{cond, ◌&&◌}
-use mathlib.Core.List.{List, ◌∷◌, ◌++◌}
+use mathlib.Core.List.{List, ◌++◌, append_assoc}
 use Prim.Native.Nat.{ℕ, zero, suc, ◌+◌, ◌-◌, ◌*◌, ◌≤◌, ◌<◌}
 use native.Mathlib.Omega.{arith}
 use borrow.Author.Tests.{le-leb, lt-leb}
 use lib.Dec.{leb}
-use lib.ListN.{length, replicate, length-append}
+use lib.ListN.{length, take, drop, replicate, length-append, length-drop, length-replicate}
+use lib.Seq.{length-take-le, drop-drop}
+use Rattle.std.specs.Prelude.{Ok, Err}
 use Rattle.rules.specs.Cells.{write_each, over}
 use Rattle.rules.specs.Value.{Value, value_cells, no_value}
 use Rattle.rules.specs.Answer.{Answer, fine, refuse, none, bounds, ◌then◌, ask}
@@ -19,21 +21,19 @@ use Rattle.rules.specs.Collection.{call_of}
 use Rattle.rules.specs.Accessors.{ask_writing, positions, positions_cells, ask_number, optional, optional_cells}
 use Rattle.rules.proofs.LawsListing.{and_no_left, and_no_right, and_both}
 use Rattle.rules.proofs.LawsRecord.{length_write_each}
+use Rattle.cells.specs.Question.{number_of, refused}
+use Rattle.cells.specs.declared.question.Question.{Question}
+use Rattle.cells.specs.declared.question.Question.TheVariants.{LargeNumbers}
 use Rattle.cells.specs.Out.{stored}
-use Rattle.cells.specs.Listed.{listed}
 use Rattle.cells.proofs.LawsOut.{stored_stored, stored_first}
 use Rattle.cells.proofs.LawsWrite.{value_cells_two, write_each_append}
 use Rattle.calls.specs.Values.{values_in}
 use Rattle.calls.proofs.LawsNamed.{passed_few, P-length, P-listed}
 use Rattle.accessors.specs.Answer.{Accessing}
-use Rattle.accessors.specs.declared.answer.Accessed.TheVariants.{Answered, Record, ArgsArrayIsNotIterable, WrongNumberOfArgs}
+use Rattle.accessors.specs.declared.answer.FunctionError.TheVariants.{Record, ArgsArrayIsNotIterable, WrongNumberOfArgs}
 use Rattle.accessors.proofs.LawsAccess.{accessing_denied, accessing_gives, writing_numbered, writing_call, writing_long, star_refused, star_fine}
 
 -- ---- values that are missing
-
-pub missing_listed : (i count : ℕ) → listed (λ k. no_value) i count ≡ replicate count no_value
-missing_listed i zero = refl
-missing_listed i (suc count) = ap {B = List Value} (λ vs. no_value ∷ vs) (missing_listed (suc i) count)
 
 values_wide : (vs : List Value) → length (write_each value_cells vs) ≡ 2 * length vs
 values_wide vs = length_write_each 2 (λ cells. no_value) value_cells value_cells_two vs
@@ -42,17 +42,37 @@ replicate_length : (count : ℕ) → length (replicate count no_value) ≡ count
 replicate_length zero = refl
 replicate_length (suc count) = ap suc (replicate_length count)
 
+-- their cells are all 0
+missing_cells : (count : ℕ) → write_each value_cells (replicate count no_value) ≡ replicate (2 * count) 0
+unfolding value_cells no_value
+missing_cells zero = refl
+missing_cells (suc count) =
+    let next : 2 * suc count ≡ suc (suc (2 * count)) = omega arith in
+    rw (next, missing_cells count)
+
+-- stored where the values before them end, by filling the cells there
+pub missing_filled : (cells filled : List ℕ) (from to : ℕ) → from ≤ to → 2 * to ≤ length cells
+    → filled ≡ replicate (length (take (2 * to - 2 * from) (drop (2 * from) cells))) 0
+    → take (2 * from) cells ++ (filled ++ drop (2 * to - 2 * from) (drop (2 * from) cells)) ≡ stored cells (2 * from) (write_each value_cells (replicate (to - from) no_value))
+unfolding stored
+missing_filled cells filled from to h fits e =
+    let long : length (take (2 * to - 2 * from) (drop (2 * from) cells)) ≡ 2 * to - 2 * from = length-take-le (2 * to - 2 * from) (drop (2 * from) cells) (rw length-drop (omega arith)) in
+    let many : 2 * (to - from) ≡ 2 * to - 2 * from = omega arith in
+    let end : 2 * from + (2 * to - 2 * from) ≡ 2 * to = omega arith in
+    rw (e, long, missing_cells (to - from), many, length-replicate, drop-drop, end, le-leb (2 * to) (length cells) fits)
+    (sym (append_assoc (take (2 * from) cells) (replicate (2 * to - 2 * from) 0) (drop (2 * to) cells)))
+
 -- ---- a record and an output that pass 9 to 14
 
 module _ (cells area out : List ℕ) where
   abbrev P : List Value
   P = positionals_of (call_of cells area)
 
-  pub positions_refused : (n : ℕ) → ask_writing 64 64 cells area out ≡ refuse n none → Accessing (positions 64 64 cells area out) (positions_cells cells area) out out (Record n)
+  pub positions_refused : (q : Question) → ask_writing 64 64 cells area out ≡ refused q → Accessing (positions 64 64 cells area out) (positions_cells cells area) out out (Err (Record q))
   unfolding positions
-  positions_refused n e =
-      accessing_denied (ask_writing 64 64 cells area out then ask 15 (star_passes (call_of cells area).star)) (length P) (positions_cells cells area) out (Record n) n none
-      (ap (λ a. a then ask 15 (star_passes (call_of cells area).star)) e) refl (writing_numbered cells area out n e)
+  positions_refused q e =
+      accessing_denied (ask_writing 64 64 cells area out then ask 15 (star_passes (call_of cells area).star)) (length P) (positions_cells cells area) out (Record q)
+      (ap (λ a. a then ask 15 (star_passes (call_of cells area).star)) e) (writing_numbered cells area out (number_of q) e)
 
   module _ (h : Head) (read : h ≡ read_head cells) (passed : ask_writing 64 64 cells area out ≡ fine) where
     call : ask_call 64 cells area ≡ fine
@@ -65,14 +85,14 @@ module _ (cells area out : List ℕ) where
     pub values_room : 0 + 2 * (h.p + h.s) ≤ length out
     values_room = omega (arith, values_few, writing_long cells area out passed)
 
-    pub positions_star : h.star_kind ≡ 2 → Accessing (positions 64 64 cells area out) (positions_cells cells area) out out ArgsArrayIsNotIterable
+    pub positions_star : h.star_kind ≡ 2 → Accessing (positions 64 64 cells area out) (positions_cells cells area) out out (Err ArgsArrayIsNotIterable)
     unfolding positions
     positions_star e =
-        accessing_denied (ask_writing 64 64 cells area out then ask 15 (star_passes (call_of cells area).star)) (length P) (positions_cells cells area) out ArgsArrayIsNotIterable 15 none
-        (ap₂ ◌then◌ passed (star_refused area cells h read call e)) refl refl
+        accessing_denied (ask_writing 64 64 cells area out then ask 15 (star_passes (call_of cells area).star)) (length P) (positions_cells cells area) out ArgsArrayIsNotIterable
+        (ap₂ ◌then◌ passed (star_refused area cells h read call e)) refl
 
     pub positions_written : (h.star_kind ≡ 2 → ⊥) → (after : List ℕ) → after ≡ stored out 0 (write_each value_cells (values_in cells h 0 (h.p + h.s)))
-        → Accessing (positions 64 64 cells area out) (positions_cells cells area) out after (Answered (h.p + h.s))
+        → Accessing (positions 64 64 cells area out) (positions_cells cells area) out after (Ok (h.p + h.s))
     unfolding positions positions_cells
     positions_written s after so =
         accessing_gives (ask_writing 64 64 cells area out then ask 15 (star_passes (call_of cells area).star)) (length P) (positions_cells cells area) out (h.p + h.s) after
@@ -112,19 +132,19 @@ module _ (required more : ℕ) (cells area out : List ℕ) where
       asking (ask 25 (leb required 64 && leb more 64)) (ask_writing 64 64 cells area out) (ask 15 (star_passes (call_of cells area).star))
       (ask_number required more (length (positionals_of (call_of cells area))))
 
-  pub optional_required : 64 < required → Accessing (optional 64 64 required more cells area out) (optional_cells required more cells area) out out (Record 25)
+  pub optional_required : 64 < required → Accessing (optional 64 64 required more cells area out) (optional_cells required more cells area) out out (Err (Record LargeNumbers))
   unfolding optional
   optional_required e =
-      accessing_denied asks (length (positionals_of (call_of cells area))) (optional_cells required more cells area) out (Record 25) 25 none
+      accessing_denied asks (length (positionals_of (call_of cells area))) (optional_cells required more cells area) out (Record LargeNumbers)
       (ap (λ b. asking (ask 25 b) (ask_writing 64 64 cells area out) (ask 15 (star_passes (call_of cells area).star)) (ask_number required more (length (positionals_of (call_of cells area)))))
-      (and_no_left (leb required 64) (leb more 64) (lt-leb required 64 e))) refl refl
+      (and_no_left (leb required 64) (leb more 64) (lt-leb required 64 e))) refl
 
-  pub optional_more : 64 < more → Accessing (optional 64 64 required more cells area out) (optional_cells required more cells area) out out (Record 25)
+  pub optional_more : 64 < more → Accessing (optional 64 64 required more cells area out) (optional_cells required more cells area) out out (Err (Record LargeNumbers))
   unfolding optional
   optional_more e =
-      accessing_denied asks (length (positionals_of (call_of cells area))) (optional_cells required more cells area) out (Record 25) 25 none
+      accessing_denied asks (length (positionals_of (call_of cells area))) (optional_cells required more cells area) out (Record LargeNumbers)
       (ap (λ b. asking (ask 25 b) (ask_writing 64 64 cells area out) (ask 15 (star_passes (call_of cells area).star)) (ask_number required more (length (positionals_of (call_of cells area)))))
-      (and_no_right (leb required 64) (leb more 64) (lt-leb more 64 e))) refl refl
+      (and_no_right (leb required 64) (leb more 64) (lt-leb more 64 e))) refl
 
   module _ (few-required : required ≤ 64) (few_more : more ≤ 64) where
     numbers_fine : ask 25 (leb required 64 && leb more 64) ≡ fine
@@ -138,29 +158,29 @@ module _ (required more : ℕ) (cells area out : List ℕ) where
         ∙ ap (λ a. a then ask 15 (star_passes (call_of cells area).star) then ask_number required more (length (positionals_of (call_of cells area)))) w
         ∙ ap₂ (λ a b. writing then a then b) s n
 
-    pub optional_refused : (n : ℕ) → ask_writing 64 64 cells area out ≡ refuse n none → Accessing (optional 64 64 required more cells area out) (optional_cells required more cells area) out out (Record n)
+    pub optional_refused : (q : Question) → ask_writing 64 64 cells area out ≡ refused q → Accessing (optional 64 64 required more cells area out) (optional_cells required more cells area) out out (Err (Record q))
     unfolding optional
-    optional_refused n e =
-        accessing_denied asks (length (positionals_of (call_of cells area))) (optional_cells required more cells area) out (Record n) n none
-        (after_numbers (refuse n none) (ask 15 (star_passes (call_of cells area).star)) (ask_number required more (length (positionals_of (call_of cells area)))) e refl refl) refl (writing_numbered cells area out n e)
+    optional_refused q e =
+        accessing_denied asks (length (positionals_of (call_of cells area))) (optional_cells required more cells area) out (Record q)
+        (after_numbers (refused q) (ask 15 (star_passes (call_of cells area).star)) (ask_number required more (length (positionals_of (call_of cells area)))) e refl refl) (writing_numbered cells area out (number_of q) e)
 
     module _ (h : Head) (read : h ≡ read_head cells) (passed : ask_writing 64 64 cells area out ≡ fine) where
-      pub optional_star : h.star_kind ≡ 2 → Accessing (optional 64 64 required more cells area out) (optional_cells required more cells area) out out ArgsArrayIsNotIterable
+      pub optional_star : h.star_kind ≡ 2 → Accessing (optional 64 64 required more cells area out) (optional_cells required more cells area) out out (Err ArgsArrayIsNotIterable)
       unfolding optional
       optional_star e =
-          accessing_denied asks (length (positionals_of (call_of cells area))) (optional_cells required more cells area) out ArgsArrayIsNotIterable 15 none
-          (after_numbers fine (refuse 15 none) (ask_number required more (length (positionals_of (call_of cells area)))) passed (star_refused area cells h read (writing_call cells area out passed) e) refl) refl refl
+          accessing_denied asks (length (positionals_of (call_of cells area))) (optional_cells required more cells area) out ArgsArrayIsNotIterable
+          (after_numbers fine (refuse 15 none) (ask_number required more (length (positionals_of (call_of cells area)))) passed (star_refused area cells h read (writing_call cells area out passed) e) refl) refl
 
-      number_of : (a : Answer) → ask_number required more (h.p + h.s) ≡ a → ask_number required more (length (positionals_of (call_of cells area))) ≡ a
-      number_of a e = ap (ask_number required more) (P-length area cells h read (writing_call cells area out passed)) ∙ e
+      number_by_length : (a : Answer) → ask_number required more (h.p + h.s) ≡ a → ask_number required more (length (positionals_of (call_of cells area))) ≡ a
+      number_by_length a e = ap (ask_number required more) (P-length area cells h read (writing_call cells area out passed)) ∙ e
 
       module _ (star : h.star_kind ≡ 2 → ⊥) where
         pub optional_number : ask_number required more (h.p + h.s) ≡ refuse 26 (bounds required (required + more) (h.p + h.s))
-            → Accessing (optional 64 64 required more cells area out) (optional_cells required more cells area) out out (WrongNumberOfArgs required (required + more) (h.p + h.s))
+            → Accessing (optional 64 64 required more cells area out) (optional_cells required more cells area) out out (Err (WrongNumberOfArgs required (required + more) (h.p + h.s)))
         unfolding optional
         optional_number e =
-            accessing_denied asks (length (positionals_of (call_of cells area))) (optional_cells required more cells area) out (WrongNumberOfArgs required (required + more) (h.p + h.s)) 26 (bounds required (required + more) (h.p + h.s))
-            (after_numbers fine fine (refuse 26 (bounds required (required + more) (h.p + h.s))) passed (star_fine area cells h read (writing_call cells area out passed) star) (number_of (refuse 26 (bounds required (required + more) (h.p + h.s))) e)) refl refl
+            accessing_denied asks (length (positionals_of (call_of cells area))) (optional_cells required more cells area) out (WrongNumberOfArgs required (required + more) (h.p + h.s))
+            (after_numbers fine fine (refuse 26 (bounds required (required + more) (h.p + h.s))) passed (star_fine area cells h read (writing_call cells area out passed) star) (number_by_length (refuse 26 (bounds required (required + more) (h.p + h.s))) e)) refl
 
         module _ (low : required ≤ h.p + h.s) (high : h.p + h.s ≤ required + more) where
           -- both runs fit
@@ -183,11 +203,11 @@ module _ (required more : ℕ) (cells area out : List ℕ) where
               ∙ write_each_append value_cells values missing
 
           pub optional_written : (between after : List ℕ) → between ≡ stored out 0 (write_each value_cells values) → after ≡ stored between (2 * (h.p + h.s)) (write_each value_cells missing)
-              → Accessing (optional 64 64 required more cells area out) (optional_cells required more cells area) out after (Answered (h.p + h.s))
+              → Accessing (optional 64 64 required more cells area out) (optional_cells required more cells area) out after (Ok (h.p + h.s))
           unfolding optional
           optional_written between after b a =
               accessing_gives asks (length (positionals_of (call_of cells area))) (optional_cells required more cells area) out (h.p + h.s) after
-              (after_numbers fine fine fine passed (star_fine area cells h read (writing_call cells area out passed) star) (number_of fine (number_fine required more (h.p + h.s) low high)))
+              (after_numbers fine fine fine passed (star_fine area cells h read (writing_call cells area out passed) star) (number_by_length fine (number_fine required more (h.p + h.s) low high)))
               (sym (P-length area cells h read (writing_call cells area out passed)))
               (a
               ∙ ap (λ l. stored l (2 * (h.p + h.s)) (write_each value_cells missing)) b

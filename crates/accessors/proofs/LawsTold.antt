@@ -1,58 +1,49 @@
 -- An accessor's answer forgets nothing of what it tells, and nothing is told by two answers: the answer can be read back.
 -- Assumes nothing.
 use mathlib.Core.Path.{◌≡◌, refl, sym, ap, ◌∙◌}
-use mathlib.Core.Bool.{Bool, true, false, cond, ◌&&◌, ◌||◌}
+use mathlib.Core.Bool.{cond}
 use Prim.Native.Nat.{ℕ}
-use native.Mathlib.Omega.{arith}
-use borrow.Author.Tests.{ne_eqb, eqb-true, leb-true}
-use lib.Dec.{eqb, leb}
+use lib.Dec.{eqb}
+use Rattle.std.specs.Prelude.{Result, Ok, Err}
 use Rattle.rules.specs.Text.{payload_of}
 use Rattle.rules.specs.Answer as rules
 use Rattle.rules.specs.Accessors.{Access, denied, gives}
-use Rattle.rules.proofs.LawsListing.{and_right}
 use Rattle.rules.proofs.LawsText.{payload_of_halves}
-use Rattle.accessors.specs.Answer.{is_numbered, access_in}
-use Rattle.accessors.specs.declared.answer.Accessed.{Accessed}
-use Rattle.accessors.specs.declared.answer.Accessed.TheVariants.{Answered, Record, ArgsArrayIsNotIterable, KwArgsIsNotDict, ArgsValueIsNotString, RepeatedArg, ExtraNamedArg, WrongNumberOfArgs}
+use Rattle.cells.specs.Question.{number_of}
+use Rattle.answers.proofs.LawsTold.{question_at, question_back, no_own}
+use Rattle.accessors.specs.Answer.{error_number, error_detail, access_in}
+use Rattle.accessors.specs.declared.answer.FunctionError.{FunctionError}
+use Rattle.accessors.specs.declared.answer.FunctionError.TheVariants.{Record, ArgsArrayIsNotIterable, KwArgsIsNotDict, ArgsValueIsNotString, RepeatedArg, ExtraNamedArg, WrongNumberOfArgs}
 
 -- a refusal without a detail, by the number
-abbrev unnamed : ℕ → Accessed
+abbrev unnamed : ℕ → FunctionError
 unnamed n =
-    cond (eqb n 15) ArgsArrayIsNotIterable (cond (eqb n 17) KwArgsIsNotDict (cond (eqb n 18) ArgsValueIsNotString (Record n)))
+    cond (eqb n 15) ArgsArrayIsNotIterable (cond (eqb n 17) KwArgsIsNotDict (cond (eqb n 18) ArgsValueIsNotString (Record (question_at n))))
 
-abbrev refusal_from : ℕ → rules.Detail → Accessed
-refusal_from n rules.none = unnamed n
-refusal_from n (rules.name p) = RepeatedArg (payload_of p.start p.size)
-refusal_from n (rules.count k) = Record n
-refusal_from n (rules.count_and_name k p) = ExtraNamedArg k (payload_of p.start p.size)
-refusal_from n (rules.bounds least most got) = WrongNumberOfArgs least most got
+abbrev error_from : ℕ → rules.Detail → FunctionError
+error_from n rules.none = unnamed n
+error_from n (rules.name p) = RepeatedArg (payload_of p.start p.size)
+error_from n (rules.count k) = Record (question_at n)
+error_from n (rules.count_and_name k p) = ExtraNamedArg k (payload_of p.start p.size)
+error_from n (rules.bounds least most got) = WrongNumberOfArgs least most got
 
-abbrev answer_from : Access → Accessed
-answer_from (denied n d) = refusal_from n d
-answer_from (gives k) = Answered k
+abbrev answer_from : Access → Result ℕ FunctionError
+answer_from (denied n d) = Err (error_from n d)
+answer_from (gives k) = Ok k
 
--- 9 to 14 and 25 are none of the numbers that have answers of their own
-record_back : (n : ℕ) → is_numbered (Record n) ≡ true → unnamed n ≡ Record n
-record_back n e = go (leb 9 n && leb n 14) refl e
-  where
-    go : (b : Bool) → (leb 9 n && leb n 14) ≡ b → (b || eqb n 25) ≡ true → unnamed n ≡ Record n
-    go true few e =
-        let low = leb-true n 14 (and_right (leb 9 n) (leb n 14) few) in
-        rw (ne_eqb n 15 (λ f. omega (arith, low)), ne_eqb n 17 (λ f. omega (arith, low)), ne_eqb n 18 (λ f. omega (arith, low)))
-    go false few e =
-        let is = eqb-true n 25 e in
-        rw (ne_eqb n 15 (λ f. omega (arith, is)), ne_eqb n 17 (λ f. omega (arith, is)), ne_eqb n 18 (λ f. omega (arith, is)))
+error_back : (e : FunctionError) → error_from (error_number e) (error_detail e) ≡ e
+error_back (Record q) = no_own q ArgsArrayIsNotIterable KwArgsIsNotDict ArgsValueIsNotString (Record (question_at (number_of q))) ∙ ap Record (question_back q)
+error_back ArgsArrayIsNotIterable = refl
+error_back KwArgsIsNotDict = refl
+error_back ArgsValueIsNotString = refl
+error_back (RepeatedArg name) = ap RepeatedArg (payload_of_halves name)
+error_back (ExtraNamedArg n name) = ap (ExtraNamedArg n) (payload_of_halves name)
+error_back (WrongNumberOfArgs least most got) = refl
 
-access_back : (r : Accessed) → is_numbered r ≡ true → answer_from (access_in r) ≡ r
-access_back (Answered k) e = refl
-access_back (Record n) e = record_back n e
-access_back ArgsArrayIsNotIterable e = refl
-access_back KwArgsIsNotDict e = refl
-access_back ArgsValueIsNotString e = refl
-access_back (RepeatedArg name) e = ap RepeatedArg (payload_of_halves name)
-access_back (ExtraNamedArg n name) e = ap (ExtraNamedArg n) (payload_of_halves name)
-access_back (WrongNumberOfArgs least most got) e = refl
+access_back : (r : Result ℕ FunctionError) → answer_from (access_in r) ≡ r
+access_back (Ok k) = refl
+access_back (Err e) = ap Err (error_back e)
 
 -- two answers that tell the same are the same
-pub access_one : (r r' : Accessed) → is_numbered r ≡ true → is_numbered r' ≡ true → access_in r ≡ access_in r' → r ≡ r'
-access_one r r' n n' e = sym (access_back r n) ∙ ap answer_from e ∙ access_back r' n'
+pub access_one : (r r' : Result ℕ FunctionError) → access_in r ≡ access_in r' → r ≡ r'
+access_one r r' e = sym (access_back r) ∙ ap answer_from e ∙ access_back r'

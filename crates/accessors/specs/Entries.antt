@@ -1,15 +1,16 @@
 -- What the questions about the entries need and answer, and what writing the pairs of N needs.
-use Rattle.std.specs.Prelude.{◌≡◌, true, List, ℕ, ◌+◌, ◌≤◌, ◌<◌}
+use Rattle.std.specs.Prelude.{Option, Some, None, Result, Ok, Err, ◌≡◌, Bool, true, false, List, ℕ, ◌+◌, ◌≤◌, ◌<◌}
 use Rattle.rules.specs.Text.{inside}
 use Rattle.rules.specs.Value.{well_formed_key, call_text}
-use Rattle.rules.specs.Answer.{Answer, fine, refuse, none, name, call_area}
+use Rattle.rules.specs.Answer.{Answer, fine, refuse}
 use Rattle.rules.specs.CallRecord.{Head}
 use Rattle.cells.specs.Record.{pair_at}
+use Rattle.cells.specs.declared.value.Key.{Key}
+use Rattle.cells.specs.declared.value.Key.TheVariants.{Word, Number}
 use Rattle.calls.specs.Head.{Few}
 use Rattle.calls.specs.Places.{named_at}
-use Rattle.answers.specs.Answer.{place_of}
-use Rattle.accessors.specs.declared.entries.Entries.{Entries}
-use Rattle.accessors.specs.declared.entries.Entries.TheVariants.{Fine, NotText, Repeated}
+use Rattle.answers.specs.declared.answer.EntryRefusal.{EntryRefusal}
+use Rattle.accessors.specs.Answer.{entry_denied, error_number, error_detail}
 
 -- the keys of all the entries are well formed
 pub record KeysFormed (area cells : List ℕ) (h : Head) : Type 0 where
@@ -27,8 +28,13 @@ pub record NamesText (cells : List ℕ) (h : Head) (count : ℕ) : Type 0 where
   pub near : (j : ℕ) → j < count → named_at 64 h j ≤ 2048
   pub text : (j : ℕ) → j < count → (pair_at cells (named_at 64 h j)).kind ≡ call_text
 
+-- was a text read?
+abbrev pub word_read : Option Key → Bool
+word_read (Some (Word t)) = true
+word_read (Some (Number z)) = false
+word_read None = false
+
 -- 01's number and detail for the answer of 18 and 19
-abbrev pub entries_answer : Entries → Answer
-entries_answer Fine = fine
-entries_answer NotText = refuse 18 none
-entries_answer (Repeated payload) = refuse 19 (name (place_of call_area payload))
+abbrev pub entries_answer : Result Unit EntryRefusal → Answer
+entries_answer (Ok _) = fine
+entries_answer (Err e) = refuse (error_number (entry_denied e)) (error_detail (entry_denied e))

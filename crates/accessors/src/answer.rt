@@ -1,17 +1,19 @@
-// What an accessor answers (01, accessors), by the Rust's names for its errors (`FunctionError`), and the name in a refusal's detail.
+// What an accessor answers (01, accessors): the number that it is asked for, or the refusal, by the Rust's name (`FunctionError`) and its names for
+// its errors; and the name in a refusal's detail.
 // Reworked from starlark 0.14.2, src/eval/runtime/arguments.rs, Apache-2.0.
 ghost use Rattle.std.specs.Prelude.{◌≡◌};
-ghost use Rattle.accessors.specs.Answer.{name_in, name_place};
+ghost use Rattle.accessors.specs.Answer.{entry_denied, name_in, name_place};
+ghost use Rattle.accessors.specs.declared.answer.FunctionError.TheVariants.{Record};
 
-use answers::answer::Collected;
+use answers::answer::EntryRefusal;
+use cells::question::Question;
+use cells::text::part;
 
 // A name is the payload of a text in the call area.
-#[derive(Clone, Copy)]
-pub enum Accessed {
-    // the number that an accessor is asked for; 0 where it is asked for none
-    Answered(usize),
-    // 9 to 14, and 25: a question about the record, the output or the numbers that are asked for, by its number
-    Record(u64),
+#[derive(Clone, Copy, Debug, PartialEq, Eq)]
+pub enum FunctionError {
+    // 9 to 14, and 25: a question about the record, the output or the numbers that are asked for
+    Record(Question),
     // 15
     ArgsArrayIsNotIterable,
     // 17
@@ -26,23 +28,41 @@ pub enum Accessed {
     WrongNumberOfArgs(usize, usize, usize),
 }
 
+impl From<Question> for FunctionError {
+    ghost from_gives = { λ question error. error ≡ Record question };
+
+    fn from(question: Question) -> FunctionError {
+        FunctionError::Record(question)
+    }
+}
+
+impl From<EntryRefusal> for FunctionError {
+    ghost from_gives = { λ entry error. error ≡ entry_denied entry };
+
+    fn from(entry: EntryRefusal) -> FunctionError {
+        match entry {
+            EntryRefusal::NotText => FunctionError::ArgsValueIsNotString,
+            EntryRefusal::Repeated(name) => FunctionError::RepeatedArg(name),
+        }
+    }
+}
+
 // The bytes of the name that goes with an answer, as collection hands them back; none where no name goes with it.
-pub fn name_of<'a>(call: &'a [u8], answer: Accessed) -> &'a [u8]
+pub fn name_of<'a>(call: &'a [u8], answer: Result<usize, FunctionError>) -> &'a [u8]
     ensures bytes { result.now ≡ name_in call.now answer }
     ensures place { result.ref_ptr ≡ name_place call.entry answer }
 {
     match answer {
-        Accessed::RepeatedArg(name) => {
-            answers::detail::name_of(call, call, Collected::RepeatedArg(name))
+        Err(FunctionError::RepeatedArg(name) | FunctionError::ExtraNamedArg(_, name)) => {
+            part(call, name)
         }
-        Accessed::ExtraNamedArg(count, name) => {
-            answers::detail::name_of(call, call, Collected::ExtraNamedArg(count, name))
-        }
-        Accessed::Answered(_)
-        | Accessed::Record(_)
-        | Accessed::ArgsArrayIsNotIterable
-        | Accessed::KwArgsIsNotDict
-        | Accessed::ArgsValueIsNotString
-        | Accessed::WrongNumberOfArgs(_, _, _) => &call[..0],
+        Ok(_)
+        | Err(
+            FunctionError::Record(_)
+            | FunctionError::ArgsArrayIsNotIterable
+            | FunctionError::KwArgsIsNotDict
+            | FunctionError::ArgsValueIsNotString
+            | FunctionError::WrongNumberOfArgs(_, _, _),
+        ) => &call[..0],
     }
 }

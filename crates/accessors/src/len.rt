@@ -4,26 +4,22 @@
 ghost use Rattle.rules.specs.Accessors as rules;
 ghost use Rattle.accessors.specs.Answer.{Answering};
 
-use crate::answer::Accessed;
+use crate::answer::FunctionError;
 use calls::ask_call;
 use calls::head::read_head;
-use cells::answer::Answer;
 
-pub fn len(cells: &[u64], area: &[u8]) -> Accessed
+pub fn len(cells: &[u64], area: &[u8]) -> Result<usize, FunctionError>
     ensures { Answering (rules.len 64 cells.now area.now) result }
 {
-    let asked = ask_call(cells, area);
-    if let Answer::Refused(question) = asked {
-        return Accessed::Record(question);
-    }
+    ask_call(cells, area)?;
     let h = read_head(cells);
     if h.star_kind == 2 {
-        return Accessed::ArgsArrayIsNotIterable;
+        return Err(FunctionError::ArgsArrayIsNotIterable);
     }
     if h.double_kind == 2 {
-        return Accessed::KwArgsIsNotDict;
+        return Err(FunctionError::KwArgsIsNotDict);
     }
     let positional = h.p + h.s;
     let named = h.n + h.d;
-    Accessed::Answered(positional + named)
+    Ok(positional + named)
 }

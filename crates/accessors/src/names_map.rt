@@ -10,39 +10,26 @@ ghost use Rattle.calls.specs.Named.{names_in};
 ghost use Rattle.accessors.specs.Answer.{Accessing};
 ghost use Rattle.accessors.specs.Entries.{NamesText};
 
-use crate::answer::Accessed;
+use crate::answer::FunctionError;
 use crate::ask::ask_writing;
-use crate::entries::{Entries, ask_entries};
+use crate::entries::ask_entries;
 use calls::head::{Head, PAIR, VALUE, read_head};
 use calls::place::named_at;
-use cells::answer::Answer;
 use cells::out::put;
 use cells::record::pair_at;
 
-pub fn names_map(cells: &[u64], area: &[u8], out: &mut [u64]) -> Accessed
+pub fn names_map(cells: &[u64], area: &[u8], out: &mut [u64]) -> Result<usize, FunctionError>
     ensures { Accessing (rules.names_map 64 64 cells.now area.now out.old) (rules.names_map_cells cells.now area.now) out.old out.new result }
 {
-    let asked = ask_writing(cells, area, out);
-    if let Answer::Refused(question) = asked {
-        return Accessed::Record(question);
-    }
+    ask_writing(cells, area, out)?;
     let h = read_head(cells);
     if h.double_kind == 2 {
-        return Accessed::KwArgsIsNotDict;
+        return Err(FunctionError::KwArgsIsNotDict);
     }
-    let entries = ask_entries(cells, area, h);
-    match entries {
-        Entries::NotText => {
-            return Accessed::ArgsValueIsNotString;
-        }
-        Entries::Repeated(name) => {
-            return Accessed::RepeatedArg(name);
-        }
-        Entries::Fine => {}
-    }
+    ask_entries(cells, area, h)?;
     let count = h.n + h.d;
     write_named(cells, h, count, out);
-    Accessed::Answered(count)
+    Ok(count)
 }
 
 // The first `count` pairs of N, stored from cell 0 on.
@@ -50,12 +37,10 @@ fn write_named(cells: &[u64], h: Head, count: usize, out: &mut [u64])
     requires { NamesText cells.now (head_of h) count × (4 * count ≤ length out.old) }
     ensures { (area : List ℕ) → out.new ≡ stored out.old 0 (write_each named_cells (names_in area cells.now (head_of h) count)) }
 {
-    let mut k = 0;
-    while k < count {
+    for k in 0..count {
         let pair = named_at(h, k);
         let to = PAIR * k;
         put(out, to, pair_at(cells, pair));
         put(out, to + VALUE, pair_at(cells, pair + VALUE));
-        k += 1;
     }
 }

@@ -3,32 +3,28 @@
 ghost use Rattle.rules.specs.Accessors.{no_named_args};
 ghost use Rattle.accessors.specs.Answer.{Answering};
 
-use crate::answer::Accessed;
+use crate::answer::FunctionError;
 use crate::entries::keys_are_texts;
 use calls::ask_call;
 use calls::head::read_head;
 use calls::place::named_at;
-use cells::answer::Answer;
 use cells::record::pair_at;
 
-pub fn no_named_args(cells: &[u64], area: &[u8]) -> Accessed
+pub fn no_named_args(cells: &[u64], area: &[u8]) -> Result<usize, FunctionError>
     ensures { Answering (no_named_args 64 cells.now area.now) result }
 {
-    let asked = ask_call(cells, area);
-    if let Answer::Refused(question) = asked {
-        return Accessed::Record(question);
-    }
+    ask_call(cells, area)?;
     let h = read_head(cells);
     if h.double_kind == 2 {
-        return Accessed::KwArgsIsNotDict;
+        return Err(FunctionError::KwArgsIsNotDict);
     }
     if !keys_are_texts(cells, area, h) {
-        return Accessed::ArgsValueIsNotString;
+        return Err(FunctionError::ArgsValueIsNotString);
     }
     let count = h.n + h.d;
     if count == 0 {
-        return Accessed::Answered(0);
+        return Ok(0);
     }
     let first = pair_at(cells, named_at(h, 0));
-    Accessed::ExtraNamedArg(count, first.payload)
+    Err(FunctionError::ExtraNamedArg(count, first.payload))
 }

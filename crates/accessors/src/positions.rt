@@ -3,24 +3,20 @@
 ghost use Rattle.rules.specs.Accessors as rules;
 ghost use Rattle.accessors.specs.Answer.{Accessing};
 
-use crate::answer::Accessed;
+use crate::answer::FunctionError;
 use crate::ask::ask_writing;
 use calls::head::read_head;
 use calls::values::write_values;
-use cells::answer::Answer;
 
-pub fn positions(cells: &[u64], area: &[u8], out: &mut [u64]) -> Accessed
+pub fn positions(cells: &[u64], area: &[u8], out: &mut [u64]) -> Result<usize, FunctionError>
     ensures { Accessing (rules.positions 64 64 cells.now area.now out.old) (rules.positions_cells cells.now area.now) out.old out.new result }
 {
-    let asked = ask_writing(cells, area, out);
-    if let Answer::Refused(question) = asked {
-        return Accessed::Record(question);
-    }
+    ask_writing(cells, area, out)?;
     let h = read_head(cells);
     if h.star_kind == 2 {
-        return Accessed::ArgsArrayIsNotIterable;
+        return Err(FunctionError::ArgsArrayIsNotIterable);
     }
     let got = h.p + h.s;
     write_values(cells, h, 0, got, 0, out);
-    Accessed::Answered(got)
+    Ok(got)
 }

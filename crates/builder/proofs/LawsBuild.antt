@@ -2,29 +2,37 @@
 -- is refused and at the end; then questions 1 to 7 one after the other. Assumes nothing.
 use mathlib.Core.Path.{◌≡◌, refl, sym, ap, ◌∙◌}
 use mathlib.Core.Bool.{true, false}
+use Rattle.std.specs.Prelude.{Result, Ok, Err, is_err}
 use mathlib.Core.List.{List, [], ◌++◌, append_assoc, append-nil}
 use Prim.Native.Nat.{ℕ, ◌+◌, ◌-◌, ◌<◌, ◌≤◌}
 use native.Mathlib.Nat.{sub-zero}
-use Rattle.rules.specs.Answer.{refuse, ◌then◌, none as no_detail}
+use Rattle.rules.specs.Answer.{◌then◌}
 use Rattle.rules.specs.ParameterRecord.{Step as RecordStep, step_count, read_parameters}
 use Rattle.rules.specs.Parameters.{pos_only, act, next_style, added, added_from, parameters_of}
 use Rattle.rules.specs.ParameterQuestions.{whole_steps, codes_known, names_inside, defaults_right, ask_steps, list_of, ask_parameters}
-use Rattle.cells.specs.declared.answer.Answer.TheVariants.{Fine, Refused}
+use Rattle.cells.specs.declared.question.Question.{Question}
+use Rattle.cells.specs.declared.question.Question.TheVariants.{PartialStep, UnknownCode, NameOutside, WrongDefault}
 use Rattle.builder.specs.declared.spec.ParametersSpecBuilder.{ParametersSpecBuilder}
 use Rattle.builder.specs.declared.spec.Stepped.{Stepped}
-use Rattle.builder.specs.declared.spec.ParametersSpec.{ParametersSpec}
-use Rattle.builder.specs.declared.Finished.{Finished}
 use Rattle.cells.specs.Listed.{listed}
 use Rattle.builder.specs.Record.{step_at}
-use Rattle.cells.specs.Answer.{answer_of}
+use Rattle.cells.specs.Question.{answer_of, refused}
 use Rattle.builder.specs.Spec.{Built, Empty, Stepping, style_in, list_in, finished}
-use Rattle.builder.specs.Build.{Taking, IsList, NoList, Building}
+use Rattle.builder.specs.Build.{Taking, IsList, Building}
 use Rattle.rules.proofs.LawsCounts.{step_counts}
 use Rattle.cells.proofs.LawsListed.{listed_next, listed_end}
 use Rattle.builder.proofs.LawsRecord.{steps_listed}
-use Rattle.builder.proofs.LawsSpec.{never_fine, never_refused}
 
 -- ---- the steps, one after the other
+
+-- what a step's answer is, from whether it is an error
+pub stopped : (r : Result Unit Question) → is_err r ≡ true → (q : Question) × (r ≡ Err q)
+stopped (Ok x) e = cc
+stopped (Err q) e = (q, refl)
+
+pub passed : (r : Result Unit Question) → is_err r ≡ false → r ≡ Ok tt
+passed (Ok x) e = refl
+passed (Err q) e = cc
 
 -- from step i on, in the state b: as many questions and parameters as of the whole record
 pub record Left (cells area : List ℕ) (m : ℕ) (b : ParametersSpecBuilder) (i : ℕ) : Type 0 where
@@ -46,7 +54,7 @@ module _ (cells area : List ℕ) (m : ℕ) where
         built = h.built area;
       }
 
-  pub left_end : (r : Stepped) (i : ℕ) → r.answer ≡ Fine → Left cells area m r.builder i → m ≤ i → Taking cells area r
+  pub left_end : (r : Stepped) (i : ℕ) → r.answer ≡ Ok tt → Left cells area m r.builder i → m ≤ i → Taking cells area r
   left_end r i a left h =
       record {
         answer = ap answer_of a ∙ sym (left.asks ∙ rw (listed_end (step_at cells) i m h));
@@ -66,15 +74,15 @@ module _ (cells area : List ℕ) (m : ℕ) where
         (listed (step_at cells) (i + 1) (m - (i + 1)))
     asks_next = left.asks ∙ rw (listed_next (step_at cells) i m h, ← e, ← s.answer)
 
-    pub left_stop : (n : ℕ) → r.answer ≡ Refused n → Taking cells area r
-    left_stop n a =
+    pub left_stop : (q : Question) → r.answer ≡ Err q → Taking cells area r
+    left_stop q a =
         record {
           answer = rw a (sym (asks_next ∙ rw a));
-          list = λ f. never_fine n (sym a ∙ f);
+          list = λ f. cc;
           built = s.built left.built;
         }
 
-    pub left_next : r.answer ≡ Fine → Left cells area m r.builder (i + 1)
+    pub left_next : r.answer ≡ Ok tt → Left cells area m r.builder (i + 1)
     left_next a =
         record {
           asks = asks_next ∙ rw (a, ← s.style a, ← s.list a);
@@ -85,48 +93,43 @@ module _ (cells area : List ℕ) (m : ℕ) where
 -- ---- questions 1 to 7
 
 module _ (cells area : List ℕ) where
-  pub refused_list : (n : ℕ) (r : Finished) → NoList n r → refuse n no_detail ≡ ask_parameters 64 cells area → Building cells area r
-  refused_list n r none e =
-      record {
-        answer = ap answer_of none.answer ∙ e;
-        fine = λ f. never_fine n (sym none.answer ∙ f);
-        within = λ f. never_fine n (sym none.answer ∙ f);
-        refused = λ k f. none.list;
-      }
+  pub none_built : (q : Question) → refused q ≡ ask_parameters 64 cells area → Building cells area (Err q)
+  none_built q e = record { answer = e; fine = λ l f. cc; within = λ l f. cc }
 
-  pub ask_1 : whole_steps 64 cells ≡ false → refuse 1 no_detail ≡ ask_parameters 64 cells area
+  pub ask_1 : whole_steps 64 cells ≡ false → refused PartialStep ≡ ask_parameters 64 cells area
   unfolding ask_parameters
   ask_1 e = sym (rw e)
 
   module _ (one : whole_steps 64 cells ≡ true) where
-    pub ask_2 : codes_known (read_parameters cells).steps ≡ false → refuse 2 no_detail ≡ ask_parameters 64 cells area
+    pub ask_2 : codes_known (read_parameters cells).steps ≡ false → refused UnknownCode ≡ ask_parameters 64 cells area
     unfolding ask_parameters
     ask_2 e = sym (rw (one, e))
 
     module _ (two : codes_known (read_parameters cells).steps ≡ true) where
-      pub ask_3 : names_inside area (read_parameters cells) ≡ false → refuse 3 no_detail ≡ ask_parameters 64 cells area
+      pub ask_3 : names_inside area (read_parameters cells) ≡ false → refused NameOutside ≡ ask_parameters 64 cells area
       unfolding ask_parameters
       ask_3 e = sym (rw (one, two, e))
 
       module _ (three : names_inside area (read_parameters cells) ≡ true) where
-        pub ask_4 : defaults_right area (read_parameters cells).steps ≡ false → refuse 4 no_detail ≡ ask_parameters 64 cells area
+        pub ask_4 : defaults_right area (read_parameters cells).steps ≡ false → refused WrongDefault ≡ ask_parameters 64 cells area
         unfolding ask_parameters
         ask_4 e = sym (rw (one, two, three, e))
 
         module _ (four : defaults_right area (read_parameters cells).steps ≡ true) (t : Stepped) (taking : Taking cells area t) where
-          pub ask_5 : (n : ℕ) → t.answer ≡ Refused n → refuse n no_detail ≡ ask_parameters 64 cells area
+          pub ask_5 : (q : Question) → t.answer ≡ Err q → refused q ≡ ask_parameters 64 cells area
           unfolding ask_parameters
-          ask_5 n e = sym (rw (one, two, three, four, ← taking.answer, e))
+          ask_5 q e = sym (rw (one, two, three, four, ← taking.answer, e))
 
           -- the list of the last state, of which nothing more is asked: that its counts agree is the law of all step lists
-          pub all_passed : (l : ParametersSpec) → t.answer ≡ Fine → l ≡ finished t.builder → Building cells area (record { answer = Fine; list = l })
+          pub all_passed : t.answer ≡ Ok tt → Building cells area (Ok (finished t.builder))
           unfolding ask_parameters list_of parameters_of
-          all_passed l e is =
+          all_passed e =
               record {
                 answer = sym (rw (one, two, three, four, ← taking.answer, e));
-                fine = λ f. rw (is, ← taking.list e) is_list;
-                within = λ f. rw (is, taking.built.positional_only, taking.built.positional, taking.list e) ((step_counts area).only_within (read_parameters cells).steps);
-                refused = λ n f. never_refused n f;
+                fine = λ l f. let is : l ≡ finished t.builder = cc in rw (is, ← taking.list e) is_list;
+                within = λ l f.
+                    let is : l ≡ finished t.builder = cc in
+                    rw (is, taking.built.positional_only, taking.built.positional, taking.list e) ((step_counts area).only_within (read_parameters cells).steps);
               }
             where
               is_list : IsList area (finished t.builder) (list_in area t.builder)

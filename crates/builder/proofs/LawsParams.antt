@@ -1,9 +1,11 @@
 -- Laws of the parameters as the code holds them, in this order: a style's number gives the style back; which parameters are nameable; one
 -- more parameter at the end of the columns; a search over them. Assumes nothing.
+use Rattle.std.specs.List.{list_any, range_with_len}
 use mathlib.Core.Path.{◌≡◌, refl, sym, ap, ◌∙◌}
 use mathlib.Core.Bool.{Bool, true, false, ◌&&◌, and_comm}
-use mathlib.Core.List.{List, [], ◌∷◌, ◌++◌}
+use mathlib.Core.List.{List}
 use Prim.Native.Nat.{ℕ, zero, suc, ◌+◌, ◌<◌, ◌≤◌}
+use native.Mathlib.Numerals.{add-one}
 use native.Mathlib.Omega.{arith}
 use native.Mathlib.Decide.{dec_le}
 use mathlib.Core.Logic.{◌⊎◌, ⊎_elim}
@@ -13,10 +15,11 @@ use Rattle.rules.specs.Listing.{any}
 use Rattle.rules.specs.Text.{same_bytes, bytes_at, text_in}
 use Rattle.rules.specs.Lookup.{names, known}
 use Rattle.rules.specs.Value.{Value, no_value}
-use Rattle.rules.specs.Parameters.{Style, pos_only, pos_or_named, named_only, no_more, rank, act_of, plain, takes_name, nameable}
+use Rattle.rules.specs.Parameters.{Style, pos_only, pos_or_named, named_only, no_more, rank, act, act_of, plain, takes_name, nameable}
 use Rattle.builder.specs.declared.params.Parameters.{Parameters}
+use Rattle.builder.specs.declared.params.Step.{Step}
 use Rattle.cells.specs.Listed.{listed}
-use Rattle.builder.specs.Params.{style_for, kind_for, parameter_of, parameter_at, parameters_in, may_be_named, named_at, known_in}
+use Rattle.builder.specs.Params.{style_for, kind_for, parameter_of, parameter_at, parameters_in, step_of, Longer, may_be_named, named_at, known_in}
 use Rattle.builder.proofs.LawsCodes.{code_0, plain_code, plain_above}
 use Rattle.cells.proofs.LawsListed.{listed_more, Listed-same, snoc_same}
 
@@ -69,14 +72,14 @@ nameable_at area p i = rw (plain_any (get_or p.codes i 0) _ no_value)
 -- ---- one more parameter at the end
 
 -- the columns with one more entry
-abbrev pub stored : Parameters → ℕ → ℕ → ℕ → Value → Parameters
-stored p code style name v =
+abbrev pub stored : Parameters → Step → ℕ → Parameters
+stored p s style =
     record {
-      codes = set p.codes p.len code;
+      codes = set p.codes p.len s.code;
       styles = set p.styles p.len style;
-      names = set p.names p.len name;
-      default_kinds = set p.default_kinds p.len v.kind;
-      default_payloads = set p.default_payloads p.len v.payload;
+      names = set p.names p.len s.name;
+      default_kinds = set p.default_kinds p.len s.default_kind;
+      default_payloads = set p.default_payloads p.len s.default_payload;
       len = p.len + 1;
     }
 
@@ -88,37 +91,45 @@ pub record Room (p : Parameters) (n : ℕ) : Type 0 where
   pub kinds : n < length p.default_kinds
   pub payloads : n < length p.default_payloads
 
-module _ (area : List ℕ) (p : Parameters) (code style name : ℕ) (v : Value) where
-  stored_before : (j : ℕ) → j < p.len → parameter_at area (stored p code style name v) j ≡ parameter_at area p j
+module _ (p : Parameters) (s : Step) (n : ℕ) where
+  stored_before : (area : List ℕ) (j : ℕ) → j < p.len → parameter_at area (stored p s n) j ≡ parameter_at area p j
   unfolding parameter_at
-  stored_before j h =
-      let n : j ≡ p.len → ⊥ = λ e. omega arith in
+  stored_before area j h =
+      let ne : j ≡ p.len → ⊥ = λ e. omega arith in
       rw (
-        get_or-set_other p.codes p.len j code 0 n,
-        get_or-set_other p.styles p.len j style 0 n,
-        get_or-set_other p.names p.len j name 0 n,
-        get_or-set_other p.default_kinds p.len j v.kind 0 n,
-        get_or-set_other p.default_payloads p.len j v.payload 0 n,
+        get_or-set_other p.codes p.len j s.code 0 ne,
+        get_or-set_other p.styles p.len j n 0 ne,
+        get_or-set_other p.names p.len j s.name 0 ne,
+        get_or-set_other p.default_kinds p.len j s.default_kind 0 ne,
+        get_or-set_other p.default_payloads p.len j s.default_payload 0 ne,
       )
 
-  stored_at : Room p p.len → parameter_at area (stored p code style name v) p.len ≡ parameter_of area code style name v
-  unfolding parameter_at
-  stored_at r =
-      rw (
-        get_or-set_same p.codes p.len code 0 r.codes,
-        get_or-set_same p.styles p.len style 0 r.styles,
-        get_or-set_same p.names p.len name 0 r.names,
-        get_or-set_same p.default_kinds p.len v.kind 0 r.kinds,
-        get_or-set_same p.default_payloads p.len v.payload 0 r.payloads,
-      )
+  module _ (style : Style) (e : n ≡ rank style) (r : Room p p.len) where
+    stored_at
+        : (area : List ℕ)
+        → parameter_at area (stored p s n) p.len
+        ≡ record { kind = kind_for (act (step_of s)); style = style; name = text_in area s.name }
+    unfolding parameter_at parameter_of act step_of
+    stored_at area =
+        rw (
+          get_or-set_same p.codes p.len s.code 0 r.codes,
+          get_or-set_same p.styles p.len n 0 r.styles,
+          get_or-set_same p.names p.len s.name 0 r.names,
+          get_or-set_same p.default_kinds p.len s.default_kind 0 r.kinds,
+          get_or-set_same p.default_payloads p.len s.default_payload 0 r.payloads,
+          e,
+          style_for_rank style,
+        )
 
-  pub stored_list
-      : Room p p.len
-      → parameters_in area (stored p code style name v) ≡ parameters_in area p ++ parameter_of area code style name v ∷ []
-  unfolding parameters_in
-  stored_list r =
-      listed_more (parameter_at area (stored p code style name v)) p.len
-      ∙ snoc_same (Listed-same _ _ 0 p.len (λ j l u. stored_before j (omega arith))) (stored_at r)
+    pub longer_stored : Longer p s style (stored p s n)
+    unfolding parameters_in
+    longer_stored =
+        record {
+          len = refl;
+          list = λ area.
+              listed_more (parameter_at area (stored p s n)) p.len
+              ∙ snoc_same (Listed-same _ _ 0 p.len (λ j l u. stored_before area j (omega arith))) (stored_at area);
+        }
 
 -- ---- a search over them
 
@@ -130,24 +141,20 @@ unfolding names parameter_at parameter_of text_in
 names_at area bytes p i =
     ap (λ (b : Bool). b && same_bytes bytes (bytes_at area (get_or p.names i 0))) (nameable_at area p i)
 
--- the parameter at an index has these bytes and can be named, from the answers to the two tests: a for the bytes x of its name, b for the rest
-module _
-    (area codes styles names bytes : List ℕ) (i : ℕ) {a : Bool} {x : List ℕ}
-    (ex : x ≡ bytes_at area (get_or names i 0)) (ea : a ≡ same_bytes bytes x) where
-  pub named_other : a ≡ false → named_at area codes styles names bytes i ≡ false
-  unfolding named_at
-  named_other fa = rw (← ex, ← ea, fa)
-
-  pub named_same : {b : Bool} → a ≡ true → b ≡ may_be_named (get_or codes i 0) (get_or styles i 0) → named_at area codes styles names bytes i ≡ b
-  unfolding named_at
-  named_same ta eb = rw (← ex, ← ea, ta, ← eb)
-
 -- a search over the columns is one over the list that they are
 module _ (area bytes : List ℕ) (p : Parameters) where
+  any_range : (i n : ℕ) → list_any (named_at area p bytes) (range_with_len i n) ≡ any (named_at area p bytes) (listed (λ j. j) i n)
+  any_range i zero = refl
+  any_range i (suc n) = rw (add-one, any_range (suc i) n)
+
+  pub known_any : list_any (named_at area p bytes) (range_with_len 0 p.len) ≡ known_in area p bytes
+  unfolding known_in
+  known_any = any_range 0 p.len
+
   Known-from
       : (i n : ℕ)
       → any (names bytes) (listed (parameter_at area p) i n)
-      ≡ any (named_at area p.codes p.styles p.names bytes) (listed (λ j. j) i n)
+      ≡ any (named_at area p bytes) (listed (λ j. j) i n)
   unfolding named_at
   Known-from i zero = refl
   Known-from i (suc n) =
@@ -157,6 +164,6 @@ module _ (area bytes : List ℕ) (p : Parameters) where
         and_comm (may_be_named (get_or p.codes i 0) (get_or p.styles i 0)) (same_bytes bytes (bytes_at area (get_or p.names i 0))),
       )
 
-  pub known_columns : known (parameters_in area p) bytes ≡ known_in area p.codes p.styles p.names p.len bytes
+  pub known_columns : known (parameters_in area p) bytes ≡ known_in area p bytes
   unfolding known known_in parameters_in
   known_columns = Known-from 0 p.len

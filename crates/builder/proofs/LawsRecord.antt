@@ -1,10 +1,13 @@
 -- Laws of the parameter record, in this order: its steps by consuming the cells are its steps by index; a step's cells; what
--- questions 2 to 4 say of a step; what a loop over the steps has left to ask. Assumes nothing.
-use mathlib.Core.Path.{◌≡◌, refl, sym, ap, ◌∙◌}
+-- questions 2 to 4 say of a step; what reading says of a test; a test of all the steps, by index; question 3. Assumes nothing.
+use Rattle.std.specs.Prelude.{Some, None, is_some}
+use Rattle.std.specs.List.{list_all, range_with_len}
+use mathlib.Core.Path.{◌≡◌, refl, sym, ap}
 use mathlib.Core.Bool.{Bool, true, false, cond, ◌&&◌}
 use mathlib.Core.List.{List, ◌∷◌}
-use Prim.Native.Nat.{ℕ, zero, suc, ◌+◌, ◌-◌, ◌*◌, ◌<◌, ◌≤◌}
-use native.Mathlib.Nat.{add-zero, sub-zero}
+use Prim.Native.Nat.{ℕ, zero, suc, ◌+◌, ◌*◌, ◌<◌, ◌≤◌}
+use native.Mathlib.Nat.{add-zero}
+use native.Mathlib.Numerals.{add-one}
 use native.Mathlib.Omega.{arith}
 use lib.Dec.{eqb}
 use lib.ListN.{drop, get_or}
@@ -16,15 +19,10 @@ use Rattle.rules.specs.Value.{read_value, well_formed_default}
 use Rattle.rules.specs.ParameterRecord.{Step as RecordStep, read_step, step_width, step_count, read_parameters}
 use Rattle.rules.specs.Parameters.{act}
 use Rattle.rules.specs.ParameterQuestions.{is_code, step_name, names_inside, uses_right, is_zero}
-use Rattle.cells.specs.declared.text.Text.{Text}
-use Rattle.cells.specs.declared.text.ReadText.TheVariants as text
-use Rattle.cells.specs.declared.value.Value.{Value as CodeValue}
-use Rattle.cells.specs.declared.value.ReadValue.TheVariants as value
 use Rattle.builder.specs.declared.params.Step.{Step}
 use Rattle.cells.specs.Listed.{listed}
 use Rattle.builder.specs.Params.{step_of}
 use Rattle.builder.specs.Record.{step_at}
-use Rattle.cells.proofs.LawsListed.{listed_end, all_stop, all_next}
 use Rattle.builder.proofs.LawsCodes.{code_0, code_8, is_code_7, has_name_3, has_name_4, uses_right_2, uses_right_7}
 
 read_each_listed : (cells : List ℕ) (i n : ℕ) → read_each 4 read_step n (drop (1 + 4 * i) cells) ≡ listed (step_at cells) i n
@@ -103,39 +101,20 @@ module _ (s : Step) where
   unfolding act step_of
   uses_above area l = rw (code_8 s.code (step_of s).default l)
 
--- ---- a test from what reading answers
+-- reading answers something where the test holds
+pub some_where : {X : Type 0} (b : Bool) (x : X) → is_some (cond b (Some x) None) ≡ b
+some_where true x = refl
+some_where false x = refl
 
-pub cond_true : {X : Type 0} (b : Bool) (p q : X) → (cond b p q ≡ q → ⊥) → true ≡ b
-cond_true true p q n = refl
-cond_true false p q n = absurd (n refl)
+-- ---- a test of all the steps, put to each index
 
-pub cond_false : {X : Type 0} (b : Bool) (p q : X) → (cond b p q ≡ p → ⊥) → false ≡ b
-cond_false true p q n = absurd (n refl)
-cond_false false p q n = refl
+module _ (test : RecordStep → Bool) (cells : List ℕ) where
+  all_listed : (i n : ℕ) → list_all (λ k. test (step_at cells k)) (range_with_len i n) ≡ all test (listed (step_at cells) i n)
+  all_listed i zero = refl
+  all_listed i (suc n) = rw (add-one, all_listed (suc i) n)
 
-pub text_or_not : {t : Text} → text.Is t ≡ text.Not → ⊥
-text_or_not e = let z : ◌≡◌ {A = ℕ} 0 1 = cc in omega arith
-
-pub value_or_not : {v : CodeValue} → value.Is v ≡ value.Not → ⊥
-value_or_not e = let z : ◌≡◌ {A = ℕ} 0 1 = cc in omega arith
-
--- ---- a loop over the m steps that asks each the same: what is left to ask from step i on
-
-module _ (test : RecordStep → Bool) (cells : List ℕ) (m : ℕ) where
-  pub each_start : m ≡ step_count cells → all test (read_parameters cells).steps ≡ all test (listed (step_at cells) 0 (m - 0))
-  each_start e = rw (steps_listed, sub-zero, e)
-
-  module _ (i : ℕ) {whole : Bool} (left : whole ≡ all test (listed (step_at cells) i (m - i))) where
-    -- step i answered r
-    module _ (h : i < m) {t : RecordStep} (et : t ≡ step_at cells i) {r : Bool} (er : r ≡ test t) where
-      pub each_stop : r ≡ false → false ≡ whole
-      each_stop n = sym (left ∙ all_stop test (step_at cells) i m h (rw (← et, ← er) n))
-
-      pub each_next : r ≡ true → whole ≡ all test (listed (step_at cells) (i + 1) (m - (i + 1)))
-      each_next n = left ∙ all_next test (step_at cells) i m h (rw (← et, ← er) n)
-
-    pub each_end : m ≤ i → true ≡ whole
-    each_end h = sym (left ∙ rw (listed_end (step_at cells) i m h))
+  pub all_steps : list_all (λ k. test (step_at cells k)) (range_with_len 0 (step_count cells)) ≡ all test (read_parameters cells).steps
+  all_steps = rw steps_listed (all_listed 0 (step_count cells))
 
 -- question 3 begins with the function's name, of which r says whether it is one
 module _ (area cells : List ℕ) {x : ℕ} (ex : x ≡ get_or cells 0 0) {r : Bool} (er : r ≡ is_text 1 area x) where

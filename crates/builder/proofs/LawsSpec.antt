@@ -1,9 +1,10 @@
 -- Laws of the builder's steps, in this order: the promise of a step from its answer; the marks; a step that adds a parameter, refused and
--- taken, with the counts and indices after it; a parameter stored in the columns; 6 and 7 of a plain one, over the columns; the three ways to
+-- taken, with the counts and indices after it; 6 and 7 of a plain one, over the columns; the three ways to
 -- add; a code refused against the style. Assumes nothing.
 use mathlib.Core.Path.{◌≡◌, refl, sym, ap, subst, ◌∙◌}
 use mathlib.Core.Bool.{Bool, true, false, cond, false≢true}
 use mathlib.Core.List.{List, [], ◌∷◌, ◌++◌, append-nil}
+use Rattle.std.specs.Prelude.{Some, None, Ok}
 use mathlib.Core.Option.{Option, none, some}
 use mathlib.Core.Logic.{◌⊎◌, inl, inr}
 use Prim.Native.Nat.{ℕ, ◌+◌, ◌<◌, ◌≤◌}
@@ -12,49 +13,43 @@ use native.Mathlib.Omega.{arith}
 use lib.ListN.{length}
 use lib.Dec.{ltb}
 use borrow.Author.Tests.{ltb-true}
-use Rattle.rules.specs.Answer.{Answer, fine, refuse, ask, ◌then◌, none as no_detail}
+use Rattle.rules.specs.Answer.{Answer, fine, ask, ◌then◌}
 use Rattle.rules.specs.Text.{text_in}
 use Rattle.rules.specs.ParameterRecord.{Step as RecordStep}
-use Rattle.rules.specs.Parameters.{Style, pos_only, pos_or_named, named_only, no_more, ParameterKind, args, kwargs, adds, slash, bare_star, act, act_of, may_stand, next_style, Parameter, rank, takes_position, comes_before, positional, positional_only, is_args, is_kwargs, added, positional_only_count, positional_count, args_index, kwargs_index}
+use Rattle.rules.specs.Parameters.{Style, pos_only, pos_or_named, named_only, no_more, ParameterKind, args, kwargs, adds, slash, bare_star, act, act_of, may_stand, next_style, Parameter, takes_position, comes_before, positional, positional_only, is_args, is_kwargs, added, positional_only_count, positional_count, args_index, kwargs_index}
 use Rattle.rules.specs.ParameterQuestions.{name_is_new, ask_step}
 use Rattle.builder.specs.declared.params.CurrentParameterStyle.{CurrentParameterStyle}
 use Rattle.builder.specs.declared.params.CurrentParameterStyle.TheVariants.{PosOnly, PosOrNamed, NamedOnly, NoMore}
-use Rattle.builder.specs.declared.params.Parameters.{Parameters}
 use Rattle.builder.specs.declared.params.Step.{Step}
-use Rattle.builder.specs.declared.spec.Index.TheVariants.{At, Absent}
-use Rattle.cells.specs.declared.answer.Answer.TheVariants.{Fine, Refused}
+use Rattle.cells.specs.declared.question.Question.{Question}
+use Rattle.cells.specs.declared.question.Question.TheVariants.{OutOfOrder, TooManyParameters}
+use Rattle.cells.specs.Question.{refused}
 use Rattle.builder.specs.declared.spec.ParametersSpecBuilder.{ParametersSpecBuilder}
-use Rattle.builder.specs.Params.{style_of, kind_for, step_of, parameters_in, parameter_of, new_in, ask_adding}
-use Rattle.builder.specs.Spec.{SoFar, Built, Longer, Stepping, refused_by, under_style, style_in, params_of, list_in, index_of}
+use Rattle.builder.specs.Params.{style_of, kind_for, step_of, parameters_in, new_in, ask_adding, Longer}
+use Rattle.builder.specs.Spec.{SoFar, Built, Stepping, refused_by, under_style, style_in, list_in, index_of}
 use Rattle.rules.proofs.LawsCounts.{step_within}
 use Rattle.cells.proofs.LawsListed.{length_listed, tally_snoc, first_snoc, or_first}
 use Rattle.builder.proofs.LawsCodes.{may_stand_star, code_8}
-use Rattle.builder.proofs.LawsParams.{Room, stored, stored_list, style_for_rank, known_columns}
+use Rattle.builder.proofs.LawsParams.{known_columns}
 use Rattle.builder.proofs.LawsAsk.{ask_step_5, ask_step_slash, ask_step_star, ask_step_adds, ask_step_6, ask_step_fine, may_stand_plain, next_style_plain, is_args_plain, is_kwargs_plain, act_code, act_plain, kind_plain}
 
 -- ---- the promise of a step
 
-pub never_fine : {X : Type 0} (n : ℕ) → Refused n ≡ Fine → X
-never_fine n e = let z : ◌≡◌ {A = ℕ} 0 1 = cc in absurd (omega arith)
-
-pub never_refused : {X : Type 0} (n : ℕ) → Fine ≡ Refused n → X
-never_refused n e = let z : ◌≡◌ {A = ℕ} 0 1 = cc in absurd (omega arith)
-
-pub length_parameters_in : (area : List ℕ) (b : ParametersSpecBuilder) → length (list_in area b) ≡ b.len
+pub length_parameters_in : (area : List ℕ) (b : ParametersSpecBuilder) → length (list_in area b) ≡ b.params.len
 unfolding parameters_in
-length_parameters_in area b = length_listed _ 0 b.len
+length_parameters_in area b = length_listed _ 0 b.params.len
 
 module _ (area : List ℕ) (b : ParametersSpecBuilder) (t : RecordStep) where
   pub stepping_refused
-      : (n : ℕ)
-      → ask_step 64 area (style_in b) (list_in area b) t ≡ refuse n no_detail
-      → Stepping area b t (refused_by n b)
-  stepping_refused n e =
+      : (q : Question)
+      → ask_step 64 area (style_in b) (list_in area b) t ≡ refused q
+      → Stepping area b t (refused_by q b)
+  stepping_refused q e =
       record {
         answer = sym e;
         refused = λ m p. refl;
-        style = λ p. never_fine n p;
-        list = λ p. never_fine n p;
+        style = λ p. cc;
+        list = λ p. cc;
         built = λ h. h;
       }
 
@@ -64,18 +59,18 @@ module _ (area : List ℕ) (b : ParametersSpecBuilder) (t : RecordStep) where
       → style_in b' ≡ next_style (style_in b) (act t)
       → list_in area b' ≡ list_in area b ++ added area (style_in b) (act t) t.name
       → (Built area b → Built area b')
-      → Stepping area b t (record { answer = Fine; builder = b' })
+      → Stepping area b t (record { answer = Ok tt; builder = b' })
   stepping_fine b' e style list built =
       record {
         answer = sym e;
-        refused = λ m p. never_refused m p;
+        refused = λ m p. cc;
         style = λ p. style;
         list = λ p. list;
         built = built;
       }
 
-  pub stepping_5 : may_stand (style_in b) (act t) ≡ false → Stepping area b t (refused_by 5 b)
-  stepping_5 e = stepping_refused 5 (ask_step_5 64 area (style_in b) (list_in area b) t e)
+  pub stepping_5 : may_stand (style_in b) (act t) ≡ false → Stepping area b t (refused_by OutOfOrder b)
+  stepping_5 e = stepping_refused OutOfOrder (ask_step_5 64 area (style_in b) (list_in area b) t e)
 
   -- a mark changes the style alone
   stepping_mark
@@ -103,14 +98,14 @@ module _ (area : List ℕ) (b : ParametersSpecBuilder) (t : RecordStep) where
 -- before NamedOnly there is neither *args nor **kwargs, and before NoMore no **kwargs
 sofar_named
     : (s : Style) (b : ParametersSpecBuilder)
-    → comes_before s named_only ≡ true → SoFar s b → (b.args ≡ Absent) × (b.kwargs ≡ Absent)
+    → comes_before s named_only ≡ true → SoFar s b → (b.args ≡ None) × (b.kwargs ≡ None)
 unfolding comes_before
 sofar_named pos_only b m h = (h.2, h.3)
 sofar_named pos_or_named b m h = (h.1, h.2)
 sofar_named named_only b m h = absurd (false≢true m)
 sofar_named no_more b m h = absurd (false≢true m)
 
-sofar_more : (s : Style) (b : ParametersSpecBuilder) → comes_before s no_more ≡ true → SoFar s b → b.kwargs ≡ Absent
+sofar_more : (s : Style) (b : ParametersSpecBuilder) → comes_before s no_more ≡ true → SoFar s b → b.kwargs ≡ None
 unfolding comes_before
 sofar_more pos_only b m h = h.3
 sofar_more pos_or_named b m h = h.2
@@ -145,14 +140,14 @@ stepping_star area b t s e =
 module _
     (area : List ℕ) (b : ParametersSpecBuilder) (s : Step) (k : ParameterKind)
     (e : act (step_of s) ≡ adds k) (m : may_stand (style_in b) (adds k) ≡ true) where
-  pub adding_6 : 64 ≤ b.len → Stepping area b (step_of s) (refused_by 6 b)
+  pub adding_6 : 64 ≤ b.params.len → Stepping area b (step_of s) (refused_by TooManyParameters b)
   adding_6 h =
-      stepping_refused area b (step_of s) 6
+      stepping_refused area b (step_of s) TooManyParameters
       (ask_step_6 64 area (style_in b) (list_in area b) (step_of s) k e m (rw length_parameters_in h))
 
   -- 6 and 7 are answered well
   adding_asked
-      : b.len < 64
+      : b.params.len < 64
       → name_is_new area (style_in b) (list_in area b) (adds k) s.name ≡ true
       → ask_step 64 area (style_in b) (list_in area b) (step_of s) ≡ fine
   unfolding step_of
@@ -162,7 +157,7 @@ module _
   abbrev pub newest : Parameter
   newest = record { kind = k; style = style_in b; name = text_in area s.name }
 
-  module _ (b' : ParametersSpecBuilder) (p : Longer b s b') where
+  module _ (b' : ParametersSpecBuilder) (p : Longer b.params s (style_in b) b'.params) where
     list_newest : list_in area b' ≡ list_in area b ++ newest ∷ []
     list_newest = p.list area ∙ rw e
 
@@ -170,7 +165,7 @@ module _
         : ask_step 64 area (style_in b) (list_in area b) (step_of s) ≡ fine
         → style_in b' ≡ next_style (style_in b) (adds k)
         → (Built area b → Built area b')
-        → Stepping area b (step_of s) (record { answer = Fine; builder = b' })
+        → Stepping area b (step_of s) (record { answer = Ok tt; builder = b' })
     unfolding step_of
     adding_fine asked style built =
         stepping_fine area b (step_of s) b'
@@ -181,11 +176,11 @@ module _
 
     -- counts and indices that took in the newest parameter are those of the longer list
     pub built_newest
-        : b.len < 64
+        : b.params.len < 64
         → b'.positional_only ≡ cond (positional_only newest) (b.positional_only + 1) b.positional_only
         → b'.positional ≡ cond (positional newest) (b.positional + 1) b.positional
-        → index_of b'.args ≡ or_first (index_of b.args) (is_args k) b.len
-        → index_of b'.kwargs ≡ or_first (index_of b.kwargs) (is_kwargs k) b.len
+        → index_of b'.args ≡ or_first (index_of b.args) (is_args k) b.params.len
+        → index_of b'.kwargs ≡ or_first (index_of b.kwargs) (is_kwargs k) b.params.len
         → SoFar (style_in b') b'
         → Built area b
         → Built area b'
@@ -203,22 +198,6 @@ module _
           sofar = sofar;
         }
 
--- ---- a parameter stored in the columns, under the number n of the style so far
-
-pub longer_stored
-    : (b b' : ParametersSpecBuilder) (s : Step) (n : ℕ)
-    → n ≡ rank (style_in b)
-    → Room (params_of b) b.len
-    → params_of b' ≡ stored (params_of b) s.code n s.name (step_of s).default
-    → Longer b s b'
-unfolding act step_of parameter_of
-longer_stored b b' s n e room same =
-    record {
-      len = ap (λ (p : Parameters). p.len) same;
-      list = λ area.
-          rw (same, stored_list area (params_of b) s.code n s.name (step_of s).default room, e, style_for_rank (style_in b));
-    }
-
 -- ---- 6 and 7 of a plain parameter, over the columns
 
 pub asked_plain
@@ -227,7 +206,7 @@ pub asked_plain
     → s.code < 4
     → comes_before (style_in b) no_more ≡ true
     → ask_step 64 area (style_in b) (list_in area b) (step_of s)
-    ≡ ask_adding area b.codes b.styles b.names b.len (style_in b) s.name
+    ≡ ask_adding area b.params (style_in b) s.name
 unfolding step_of
 asked_plain area b s l u m =
     let pk = kind_plain s l u in
@@ -238,13 +217,13 @@ asked_plain area b s l u m =
 -- where they are answered well there is room
 pub asked_room
     : (area : List ℕ) (b : ParametersSpecBuilder) (s : Step)
-    → ask_adding area b.codes b.styles b.names b.len (style_in b) s.name ≡ fine
-    → b.len < 64
-asked_room area b s e = go (ltb b.len 64) refl (ask 7 (new_in area b.codes b.styles b.names b.len (style_in b) s.name)) e
+    → ask_adding area b.params (style_in b) s.name ≡ fine
+    → b.params.len < 64
+asked_room area b s e = go (ltb b.params.len 64) refl (ask 7 (new_in area b.params (style_in b) s.name)) e
   where
-    go : (t : Bool) → ltb b.len 64 ≡ t → (q : Answer) → (ask 6 t then q) ≡ fine → b.len < 64
-    go true h q f = ltb-true b.len 64 h
-    go false h q f = let z : ◌≡◌ {A = ℕ} 0 1 = cc in absurd (omega arith)
+    go : (t : Bool) → ltb b.params.len 64 ≡ t → (q : Answer) → (ask 6 t then q) ≡ fine → b.params.len < 64
+    go true h q f = ltb-true b.params.len 64 h
+    go false h q f = cc
 
 -- ---- the three ways to add
 
@@ -252,9 +231,9 @@ asked_room area b s e = go (ltb b.len 64) refl (ask 7 (new_in area b.codes b.sty
 add_sofar
     : (s : Style) (b b' : ParametersSpecBuilder)
     → comes_before s no_more ≡ true
-    → b'.len ≡ b.len + 1
-    → b'.positional_only ≡ cond (comes_before s pos_or_named) (b.len + 1) b.positional_only
-    → b'.positional ≡ cond (takes_position s) (b.len + 1) b.positional
+    → b'.params.len ≡ b.params.len + 1
+    → b'.positional_only ≡ cond (comes_before s pos_or_named) (b.params.len + 1) b.positional_only
+    → b'.positional ≡ cond (takes_position s) (b.params.len + 1) b.positional
     → b'.args ≡ b.args
     → b'.kwargs ≡ b.kwargs
     → SoFar s b
@@ -279,14 +258,14 @@ pub adding_plain
     → 1 ≤ s.code
     → s.code < 4
     → comes_before (style_in b) no_more ≡ true
-    → ask_adding area b.codes b.styles b.names b.len (style_in b) s.name ≡ fine
-    → Longer b s b'
-    → b'.positional_only ≡ cond (comes_before (style_in b) pos_or_named) (b.len + 1) b.positional_only
-    → b'.positional ≡ cond (takes_position (style_in b)) (b.len + 1) b.positional
+    → ask_adding area b.params (style_in b) s.name ≡ fine
+    → Longer b.params s (style_in b) b'.params
+    → b'.positional_only ≡ cond (comes_before (style_in b) pos_or_named) (b.params.len + 1) b.positional_only
+    → b'.positional ≡ cond (takes_position (style_in b)) (b.params.len + 1) b.positional
     → b'.current_style ≡ b.current_style
     → b'.args ≡ b.args
     → b'.kwargs ≡ b.kwargs
-    → Stepping area b (step_of s) (record { answer = Fine; builder = b' })
+    → Stepping area b (step_of s) (record { answer = Ok tt; builder = b' })
 unfolding positional_only positional
 adding_plain area b b' s l u m asked p only all same star double =
     let k = kind_for (act (step_of s)) in
@@ -299,8 +278,8 @@ adding_plain area b b' s l u m asked p only all same star double =
     built_newest area b s k e stands b' p (asked_room area b s asked)
     (rw pk so.0)
     (rw pk so.1)
-    (rw (is_args_plain k pk) (ap index_of star ∙ or_first_false (index_of b.args) b.len))
-    (rw (is_kwargs_plain k pk) (ap index_of double ∙ or_first_false (index_of b.kwargs) b.len))
+    (rw (is_args_plain k pk) (ap index_of star ∙ or_first_false (index_of b.args) b.params.len))
+    (rw (is_kwargs_plain k pk) (ap index_of double ∙ or_first_false (index_of b.kwargs) b.params.len))
     (subst (λ (st : Style). SoFar st b') (sym (ap style_of same)) so.2)
     was)
 
@@ -309,14 +288,14 @@ pub adding_args
     : (area : List ℕ) (b b' : ParametersSpecBuilder) (s : Step)
     → act (step_of s) ≡ adds args
     → comes_before (style_in b) named_only ≡ true
-    → b.len < 64
-    → Longer b s b'
+    → b.params.len < 64
+    → Longer b.params s (style_in b) b'.params
     → b'.positional_only ≡ b.positional_only
     → b'.positional ≡ b.positional
     → style_in b' ≡ named_only
-    → b'.args ≡ At b.len
+    → b'.args ≡ Some b.params.len
     → b'.kwargs ≡ b.kwargs
-    → Stepping area b (step_of s) (record { answer = Fine; builder = b' })
+    → Stepping area b (step_of s) (record { answer = Ok tt; builder = b' })
 unfolding positional_only positional
 adding_args area b b' s e m h p only all style star double =
     adding_fine area b s args e m b' p (adding_asked area b s args e m h refl) style
@@ -324,7 +303,7 @@ adding_args area b b' s e m h p only all style star double =
     let so = sofar_named (style_in b) b m was.sofar in
     built_newest area b s args e m b' p h only all
     (rw (star, so.0))
-    (ap index_of double ∙ or_first_false (index_of b.kwargs) b.len)
+    (ap index_of double ∙ or_first_false (index_of b.kwargs) b.params.len)
     (rw style (double ∙ so.1))
     was)
 
@@ -333,20 +312,20 @@ pub adding_kwargs
     : (area : List ℕ) (b b' : ParametersSpecBuilder) (s : Step)
     → act (step_of s) ≡ adds kwargs
     → comes_before (style_in b) no_more ≡ true
-    → b.len < 64
-    → Longer b s b'
+    → b.params.len < 64
+    → Longer b.params s (style_in b) b'.params
     → b'.positional_only ≡ b.positional_only
     → b'.positional ≡ b.positional
     → style_in b' ≡ no_more
     → b'.args ≡ b.args
-    → b'.kwargs ≡ At b.len
-    → Stepping area b (step_of s) (record { answer = Fine; builder = b' })
+    → b'.kwargs ≡ Some b.params.len
+    → Stepping area b (step_of s) (record { answer = Ok tt; builder = b' })
 unfolding positional_only positional
 adding_kwargs area b b' s e m h p only all style star double =
     adding_fine area b s kwargs e m b' p (adding_asked area b s kwargs e m h refl) style
     (λ was.
     built_newest area b s kwargs e m b' p h only all
-    (ap index_of star ∙ or_first_false (index_of b.args) b.len)
+    (ap index_of star ∙ or_first_false (index_of b.args) b.params.len)
     (rw (double, sofar_more (style_in b) b m was.sofar))
     (rw style tt)
     was)
@@ -358,10 +337,10 @@ module _ (area : List ℕ) (b : ParametersSpecBuilder) (s : Step) where
       : (n : ℕ) (style : CurrentParameterStyle)
       → s.code ≡ n → b.current_style ≡ style
       → may_stand (style_of style) (act_of n (step_of s).default) ≡ false
-      → Stepping area b (step_of s) (refused_by 5 b)
+      → Stepping area b (step_of s) (refused_by OutOfOrder b)
   refused_code n style e d m = stepping_5 area b (step_of s) (rw (act_code s n e, d) m)
 
-  pub refused_plain : 1 ≤ s.code → s.code < 4 → b.current_style ≡ NoMore → Stepping area b (step_of s) (refused_by 5 b)
+  pub refused_plain : 1 ≤ s.code → s.code < 4 → b.current_style ≡ NoMore → Stepping area b (step_of s) (refused_by OutOfOrder b)
   unfolding comes_before
   refused_plain l u d =
       stepping_5 area b (step_of s)
@@ -371,12 +350,12 @@ module _ (area : List ℕ) (b : ParametersSpecBuilder) (s : Step) where
       : (style : CurrentParameterStyle)
       → 5 ≤ s.code → s.code < 7 → b.current_style ≡ style
       → comes_before (style_of style) named_only ≡ false
-      → Stepping area b (step_of s) (refused_by 5 b)
+      → Stepping area b (step_of s) (refused_by OutOfOrder b)
   refused_star style l u d m =
       stepping_5 area b (step_of s)
       (rw (act_code s s.code refl) (may_stand_star (step_of s).default (style_in b) s.code l u ∙ rw d m))
 
-  pub refused_above : 8 ≤ s.code → Stepping area b (step_of s) (refused_by 5 b)
+  pub refused_above : 8 ≤ s.code → Stepping area b (step_of s) (refused_by OutOfOrder b)
   refused_above l =
       stepping_5 area b (step_of s)
       (rw (act_code s s.code refl, code_8 s.code (step_of s).default l))

@@ -1,11 +1,11 @@
 -- The parameters as the code holds them, read as the list of `rules`.
-use Rattle.std.specs.Prelude.{Bool, not, ◌&&◌, ◌||◌, List, ℕ, zero, suc, ltb, get_or, replicate}
+use Rattle.std.specs.Prelude.{Bool, not, ◌&&◌, ◌||◌, List, [], ◌∷◌, ◌++◌, ◌≡◌, ℕ, zero, suc, ◌+◌, ltb, get_or, replicate}
 use Rattle.rules.specs.Answer.{Answer, ask, ◌then◌}
 use Rattle.rules.specs.Listing.{any}
 use Rattle.rules.specs.Text.{same_bytes, bytes_at, text_in}
 use Rattle.rules.specs.Value.{Value, no_value}
 use Rattle.rules.specs.ParameterRecord.{Step as RecordStep}
-use Rattle.rules.specs.Parameters.{Style, pos_only, pos_or_named, named_only, no_more, ParameterKind, kwargs, Act, adds, slash, bare_star, unknown_code, act_of, Parameter, plain, takes_name}
+use Rattle.rules.specs.Parameters.{Style, pos_only, pos_or_named, named_only, no_more, ParameterKind, kwargs, Act, adds, slash, bare_star, unknown_code, act_of, act, Parameter, plain, takes_name}
 use Rattle.cells.specs.Listed.{listed}
 use Rattle.builder.specs.declared.params.CurrentParameterStyle.{CurrentParameterStyle}
 use Rattle.builder.specs.declared.params.CurrentParameterStyle.TheVariants.{PosOnly, PosOrNamed, NamedOnly, NoMore}
@@ -66,23 +66,33 @@ no_parameters =
       len = 0;
     }
 
+-- the list is one longer, by the parameter that a step describes, under a style
+pub record Longer (p : Parameters) (s : Step) (style : Style) (r : Parameters) : Type 0 where
+  pub len : r.len ≡ p.len + 1
+  pub list
+      : (area : List ℕ)
+      → parameters_in area r
+      ≡ parameters_in area p
+      ++ (record { kind = kind_for (act (step_of s)); style = style; name = text_in area s.name } ∷ [])
+
 -- nameable: of codes 1 to 3, under a style that takes a name
 unfoldable pub may_be_named : ℕ → ℕ → Bool
 may_be_named code style = plain (kind_for (act_of code no_value)) && takes_name (style_for style)
 
--- the parameter at an index of the columns is nameable and has these bytes
-unfoldable pub named_at : List ℕ → List ℕ → List ℕ → List ℕ → List ℕ → ℕ → Bool
-named_at area codes styles names bytes i = same_bytes bytes (bytes_at area (get_or names i 0)) && may_be_named (get_or codes i 0) (get_or styles i 0)
+-- the parameter at an index is nameable and has these bytes
+unfoldable pub named_at : List ℕ → Parameters → List ℕ → ℕ → Bool
+named_at area p bytes i =
+    same_bytes bytes (bytes_at area (get_or p.names i 0)) && may_be_named (get_or p.codes i 0) (get_or p.styles i 0)
 
--- one of the first `len` is so
-unfoldable pub known_in : List ℕ → List ℕ → List ℕ → List ℕ → ℕ → List ℕ → Bool
-known_in area codes styles names len bytes = any (named_at area codes styles names bytes) (listed (λ i. i) 0 len)
+-- one of them is so
+unfoldable pub known_in : List ℕ → Parameters → List ℕ → Bool
+known_in area p bytes = any (named_at area p bytes) (listed (λ i. i) 0 p.len)
 
 -- the name of a parameter of codes 1 to 3 is new among them, where the style takes a name
-abbrev pub new_in : List ℕ → List ℕ → List ℕ → List ℕ → ℕ → Style → ℕ → Bool
-new_in area codes styles names len style name = not (takes_name style) || not (known_in area codes styles names len (bytes_at area name))
+abbrev pub new_in : List ℕ → Parameters → Style → ℕ → Bool
+new_in area p style name = not (takes_name style) || not (known_in area p (bytes_at area name))
 
 -- 6 and 7 of a parameter of codes 1 to 3
-abbrev pub ask_adding : List ℕ → List ℕ → List ℕ → List ℕ → ℕ → Style → ℕ → Answer
-ask_adding area codes styles names len style name =
-    ask 6 (ltb len 64) then ask 7 (new_in area codes styles names len style name)
+abbrev pub ask_adding : List ℕ → Parameters → Style → ℕ → Answer
+ask_adding area p style name =
+    ask 6 (ltb p.len 64) then ask 7 (new_in area p style name)

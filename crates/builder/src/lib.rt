@@ -2,9 +2,9 @@
 // Reworked from starlark 0.14.2, src/eval/runtime/params/spec.rs, Apache-2.0.
 #![tactic(auto)]
 
-ghost use Rattle.builder.specs.Build.{NoList, Building, Taking};
+ghost use Rattle.builder.specs.Build.{Building, Taking};
 
-use cells::answer::Answer;
+use cells::question::Question;
 use record::{codes_known, defaults_right, names_inside, step_at, step_count, whole_steps};
 use spec::{ParametersSpec, ParametersSpecBuilder, Stepped};
 
@@ -12,48 +12,25 @@ pub mod params;
 pub mod record;
 pub mod spec;
 
-// What 1 to 7 answer, and the list; the one without a parameter where they refuse.
-#[derive(Drop)]
-pub struct Finished {
-    pub answer: Answer,
-    pub list: ParametersSpec,
-}
-
 // The list that a parameter record describes: 1 to 4 are each put to the whole record, 5 to 7 step by step.
-pub fn build(cells: &[u64], area: &[u8]) -> Finished
+pub fn build(cells: &[u64], area: &[u8]) -> Result<ParametersSpec, Question>
     ensures { Building cells.now area.now result }
 {
     if !whole_steps(cells) {
-        return refused(1);
+        return Err(Question::PartialStep);
     }
     if !codes_known(cells) {
-        return refused(2);
+        return Err(Question::UnknownCode);
     }
     if !names_inside(cells, area) {
-        return refused(3);
+        return Err(Question::NameOutside);
     }
     if !defaults_right(cells, area) {
-        return refused(4);
+        return Err(Question::WrongDefault);
     }
     let taken = take_steps(cells, area);
-    let answer = taken.answer;
-    match answer {
-        Answer::Refused(question) => refused(question),
-        Answer::Fine => Finished {
-            answer: Answer::Fine,
-            list: taken.builder.finish(),
-        },
-    }
-}
-
-// No list, and the question's number.
-fn refused(question: u64) -> Finished
-    ensures { NoList question result }
-{
-    Finished {
-        answer: Answer::Refused(question),
-        list: ParametersSpec::empty(),
-    }
+    taken.answer?;
+    Ok(taken.builder.finish())
 }
 
 // All the steps of a record, from the builder without a parameter, up to the first that is refused.
@@ -62,17 +39,14 @@ fn take_steps(cells: &[u64], area: &[u8]) -> Stepped
 {
     let m = step_count(cells);
     let mut stepped = Stepped {
-        answer: Answer::Fine,
         builder: ParametersSpecBuilder::new(),
+        answer: Ok(()),
     };
-    let mut i = 0;
-    while i < m {
+    for i in 0..m {
         stepped = stepped.builder.step(area, step_at(cells, i));
-        let answer = stepped.answer;
-        let Answer::Fine = answer else {
+        if stepped.answer.is_err() {
             return stepped;
-        };
-        i += 1;
+        }
     }
     stepped
 }

@@ -1,10 +1,9 @@
-// The parameters of a list, in the order in which they occur, as plain numbers, so that a search can be lent
-// the columns that it reads. Reworked from starlark 0.14.2, src/eval/runtime/params/spec.rs (CurrentParameterStyle, and the
-// params of ParametersSpecBuilder), Apache-2.0.
+// The parameters of a list, in the order in which they occur, as plain numbers. Reworked from starlark 0.14.2,
+// src/eval/runtime/params/spec.rs (CurrentParameterStyle, and the params of ParametersSpecBuilder), Apache-2.0.
 ghost use Rattle.std.specs.Prelude.{◌≡◌, cond, ◌+◌, ◌≤◌, ◌<◌};
 ghost use Rattle.rules.specs.Text.{bytes_at};
 ghost use Rattle.rules.specs.Parameters.{rank, takes_name, takes_position, comes_before, pos_or_named};
-ghost use Rattle.builder.specs.Params.{style_of, no_parameters, may_be_named, known_in, new_in};
+ghost use Rattle.builder.specs.Params.{style_of, no_parameters, may_be_named, known_in, new_in, Longer};
 
 use cells::text::same;
 
@@ -12,7 +11,7 @@ use cells::text::same;
 pub const CAPACITY: usize = 64;
 
 // How a parameter that is added now can be filled.
-#[derive(Clone, Copy)]
+#[derive(Clone, Copy, Debug, PartialEq, Eq)]
 pub enum CurrentParameterStyle {
     // By position only.
     PosOnly,
@@ -25,7 +24,7 @@ pub enum CurrentParameterStyle {
 }
 
 // One step of a parameter record: its four cells.
-#[derive(Drop)]
+#[derive(Clone, Copy, Debug, PartialEq, Eq)]
 pub struct Step {
     pub code: u64,
     pub name: u64,
@@ -51,12 +50,7 @@ impl CurrentParameterStyle {
     pub fn number(self) -> u8
         ensures { result ≡ rank (style_of self) }
     {
-        match self {
-            CurrentParameterStyle::PosOnly => 0,
-            CurrentParameterStyle::PosOrNamed => 1,
-            CurrentParameterStyle::NamedOnly => 2,
-            CurrentParameterStyle::NoMore => 3,
-        }
+        self as u8
     }
 
     pub fn takes_name(self) -> bool
@@ -110,13 +104,7 @@ pub fn nameable(code: u8, style: u8) -> bool
 pub fn may_be_named(code: u64, style: u64) -> bool
     ensures { result ≡ may_be_named code style }
 {
-    match code {
-        1..=3 => match style {
-            1..=2 => true,
-            _ => false,
-        },
-        _ => false,
-    }
+    matches!((code, style), (1..=3, 1..=2))
 }
 
 // The bytes that a payload names, as far as the area goes.
@@ -125,13 +113,7 @@ pub fn bytes_at<'a>(area: &'a [u8], payload: u64) -> &'a [u8]
 {
     let start = (payload / 256) as usize;
     let end = start + (payload % 256) as usize;
-    if end <= area.len() {
-        return &area[start..end];
-    }
-    if area.len() < start {
-        return &area[..0];
-    }
-    &area[start..]
+    &area[start.min(area.len())..end.min(area.len())]
 }
 
 impl Parameters {
@@ -147,48 +129,41 @@ impl Parameters {
             len: 0,
         }
     }
+
+    // One more parameter at the end, under a style: the one that a step describes.
+    pub(crate) fn push(&mut self, s: Step, style: CurrentParameterStyle)
+        requires { (self.old.len < 64) × (s.code < 256) }
+        ensures { Longer self.old s (style_of style) self.new }
+    {
+        let at = self.len;
+        self.codes[at] = s.code as u8;
+        self.styles[at] = style.number();
+        self.names[at] = s.name;
+        self.default_kinds[at] = s.default_kind;
+        self.default_payloads[at] = s.default_payload;
+        self.len = at + 1;
+    }
 }
 
-// Is the name of a parameter that is added under this style new among the nameable ones, if it has to be? The list is lent by its columns.
-pub(crate) fn name_is_new<'a>(
-    area: &'a [u8],
-    codes: &'a [u8; CAPACITY],
-    styles: &'a [u8; CAPACITY],
-    names: &'a [u64; CAPACITY],
-    len: usize,
+// Is the name of a parameter that is added under this style new among the nameable ones, if it has to be?
+pub(crate) fn name_is_new(
+    area: &[u8],
+    params: &Parameters,
     style: CurrentParameterStyle,
     name: u64,
 ) -> bool
-    requires { len ≤ 64 }
-    ensures { result ≡ new_in area.now codes.now styles.now names.now len (style_of style) name }
+    requires { params.now.len ≤ 64 }
+    ensures { result ≡ new_in area.now params.now (style_of style) name }
 {
-    if style.takes_name() {
-        !known(area, codes, styles, names, len, bytes_at(area, name))
-    } else {
-        true
-    }
+    !style.takes_name() || !known(area, params, bytes_at(area, name))
 }
 
 // Is there a nameable parameter with these bytes? Most are told apart by their lengths, so bytes are compared first.
-fn known<'a>(
-    area: &'a [u8],
-    codes: &'a [u8; CAPACITY],
-    styles: &'a [u8; CAPACITY],
-    names: &'a [u64; CAPACITY],
-    len: usize,
-    bytes: &[u8],
-) -> bool
-    requires { len ≤ 64 }
-    ensures { result ≡ known_in area.now codes.now styles.now names.now len bytes.now }
+fn known(area: &[u8], params: &Parameters, bytes: &[u8]) -> bool
+    requires { params.now.len ≤ 64 }
+    ensures { result ≡ known_in area.now params.now bytes.now }
 {
-    let mut i = 0;
-    while i < len {
-        if same(bytes, bytes_at(area, names[i])) {
-            if nameable(codes[i], styles[i]) {
-                return true;
-            }
-        }
-        i += 1;
-    }
-    false
+    (0..params.len).any(|i| {
+        same(bytes, bytes_at(area, params.names[i])) && nameable(params.codes[i], params.styles[i])
+    })
 }

@@ -10,8 +10,8 @@ ghost use Rattle.builder.specs.Record.{step_at, value_of};
 
 use crate::params::{CAPACITY, Step};
 use cells::record::cell;
-use cells::text::{ReadText, read_text};
-use cells::value::{ReadValue, read_default};
+use cells::text::read_text;
+use cells::value::read_default;
 
 // A list of the most parameters has two steps more, the `/` and the bare `*`.
 const MARKS: usize = 2;
@@ -21,71 +21,40 @@ pub fn whole_steps(cells: &[u64]) -> bool
     ensures { result ≡ whole_steps 64 cells.now }
 {
     let m = step_count(cells);
-    if cells.len() != 1 + 4 * m {
-        return false;
-    }
-    m <= CAPACITY + MARKS
+    cells.len() == 1 + 4 * m && m <= CAPACITY + MARKS
 }
 
 // Question 2: each step has a code that is one.
 pub fn codes_known(cells: &[u64]) -> bool
     ensures { result ≡ codes_known (read_parameters cells.now).steps }
 {
-    let m = step_count(cells);
-    let mut i = 0;
-    while i < m {
-        if !step_at(cells, i).is_code() {
-            return false;
-        }
-        i += 1;
-    }
-    true
+    (0..step_count(cells)).all(|i| step_at(cells, i).is_code())
 }
 
 // Question 3: the function has a name, and so has each step whose code calls for one.
 pub fn names_inside(cells: &[u64], area: &[u8]) -> bool
     ensures { result ≡ names_inside area.now (read_parameters cells.now) }
 {
-    if !is_name(area, cell(cells, 0)) {
-        return false;
-    }
-    let m = step_count(cells);
-    let mut i = 0;
-    while i < m {
-        if !step_at(cells, i).name_inside(area) {
-            return false;
-        }
-        i += 1;
-    }
-    true
+    is_name(area, cell(cells, 0))
+        && (0..step_count(cells)).all(|i| step_at(cells, i).name_inside(area))
 }
 
 // Question 4: a default where the code calls for one, and nothing in cells that it leaves alone.
 pub fn defaults_right(cells: &[u64], area: &[u8]) -> bool
     ensures { result ≡ defaults_right area.now (read_parameters cells.now).steps }
 {
-    let m = step_count(cells);
-    let mut i = 0;
-    while i < m {
-        if !step_at(cells, i).uses_right(area) {
-            return false;
-        }
-        i += 1;
-    }
-    true
+    (0..step_count(cells)).all(|i| step_at(cells, i).uses_right(area))
 }
 
 // How many whole steps some cells hold.
 pub fn step_count(cells: &[u64]) -> usize
     ensures { result ≡ step_count cells.now }
 {
-    if cells.len() == 0 {
-        return 0;
-    }
-    (cells.len() - 1) / 4
+    cells.len().saturating_sub(1) / 4
 }
 
 // The step at an index.
+#[tactic(auto, unfolding(rules::specs::ParameterRecord::step_count, rules::specs::ParameterRecord::step_width))]
 pub(crate) fn step_at(cells: &[u64], i: usize) -> Step
     requires { i < step_count cells.now }
     ensures { step_of result ≡ step_at cells.now i }
@@ -103,39 +72,28 @@ pub(crate) fn step_at(cells: &[u64], i: usize) -> Step
 fn is_name(area: &[u8], payload: u64) -> bool
     ensures { result ≡ is_text 1 area.now payload }
 {
-    match read_text(area, 1, payload) {
-        ReadText::Is(_) => true,
-        ReadText::Not => false,
-    }
+    read_text(area, 1, payload).is_some()
 }
 
 // Are these the cells of a default?
 fn is_default(area: &[u8], kind: u64, payload: u64) -> bool
     ensures { result ≡ well_formed_default area.now (value_of kind payload) }
 {
-    match read_default(area, kind, payload) {
-        ReadValue::Is(_) => true,
-        ReadValue::Not => false,
-    }
+    read_default(area, kind, payload).is_some()
 }
 
 impl Step {
     pub fn is_code(self) -> bool
         ensures { result ≡ is_code (act (step_of self)) }
     {
-        let code = self.code;
-        match code {
-            1..=7 => true,
-            _ => false,
-        }
+        matches!(self.code, 1..=7)
     }
 
     // Is its name a name, if its code has one?
     pub fn name_inside(self, area: &[u8]) -> bool
         ensures { result ≡ step_name area.now (step_of self) }
     {
-        let code = self.code;
-        match code {
+        match self.code {
             1..=3 => is_name(area, self.name),
             _ => true,
         }
@@ -145,16 +103,10 @@ impl Step {
     pub fn uses_right(self, area: &[u8]) -> bool
         ensures { result ≡ uses_right area.now (act (step_of self)) self.name (step_of self).default }
     {
-        let code = self.code;
-        match code {
+        match self.code {
             1..=2 => self.no_default(),
             3 => is_default(area, self.default_kind, self.default_payload),
-            4..=7 => {
-                if self.name != 0 {
-                    return false;
-                }
-                self.no_default()
-            }
+            4..=7 => self.name == 0 && self.no_default(),
             _ => true,
         }
     }
@@ -162,9 +114,6 @@ impl Step {
     fn no_default(self) -> bool
         ensures { result ≡ is_zero (step_of self).default }
     {
-        if self.default_kind != 0 {
-            return false;
-        }
-        self.default_payload == 0
+        self.default_kind == 0 && self.default_payload == 0
     }
 }

@@ -3,52 +3,41 @@
 ghost use Rattle.std.specs.Prelude.{◌≡◌, true, List, ℕ, ◌≤◌, ◌<◌};
 ghost use Rattle.rules.specs.ParameterRecord.{Step as RecordStep};
 ghost use Rattle.rules.specs.Parameters.{act, slash, bare_star, comes_before, pos_only, no_more, named_only};
-ghost use Rattle.cells.specs.Answer.{answer_of};
+ghost use Rattle.cells.specs.Question.{answer_of};
 ghost use Rattle.builder.specs.Params.{style_of, step_of, ask_adding};
-ghost use Rattle.builder.specs.Spec.{style_in, Empty, empty_list, Pushed, Stepping, refused_by, with_style, under_style, finished};
+ghost use Rattle.builder.specs.Spec.{style_in, Empty, Pushed, Stepping, refused_by, under_style, finished};
 
 use crate::params::{CAPACITY, CurrentParameterStyle, Parameters, Step, name_is_new};
-use cells::answer::Answer;
+use cells::question::Question;
 
-// A parameter's index, where there is such a parameter.
-#[derive(Clone, Copy)]
-pub enum Index {
-    At(usize),
-    Absent,
-}
-
-// The state of a list that is being built. The parameters are the columns of `Parameters`, one by one: a step stores into them where they
-// stand, and nothing is copied on the way but the state itself.
+// The state of a list that is being built. A step stores into the parameters where they stand, and nothing is copied on the way but the
+// state itself.
 #[derive(Drop)]
 pub struct ParametersSpecBuilder {
-    pub codes: [u8; CAPACITY],
-    pub styles: [u8; CAPACITY],
-    pub names: [u64; CAPACITY],
-    pub default_kinds: [u64; CAPACITY],
-    pub default_payloads: [u64; CAPACITY],
-    pub len: usize,
+    pub params: Parameters,
     // Number of parameters that can be filled only positionally.
     pub positional_only: usize,
     // Number of parameters that can be filled positionally.
     pub positional: usize,
     pub current_style: CurrentParameterStyle,
-    pub args: Index,
-    pub kwargs: Index,
+    pub args: Option<usize>,
+    pub kwargs: Option<usize>,
 }
 
-// What a step answers, and the state after it: the state before it where the step is refused.
+// What a step answers, and the state after it: the state before it where the step is refused. The state stands first: behind an answer of two
+// bytes there would be a gap, and to fill it each step would clear the columns that it is about to copy.
 #[derive(Drop)]
 pub struct Stepped {
-    pub answer: Answer,
     pub builder: ParametersSpecBuilder,
+    pub answer: Result<(), Question>,
 }
 
-#[derive(Clone, Copy)]
+#[derive(Clone, Copy, Debug, PartialEq, Eq)]
 pub struct DefParamIndices {
     pub num_positional_only: usize,
     pub num_positional: usize,
-    pub args: Index,
-    pub kwargs: Index,
+    pub args: Option<usize>,
+    pub kwargs: Option<usize>,
 }
 
 // A finished list.
@@ -58,38 +47,17 @@ pub struct ParametersSpec {
     pub indices: DefParamIndices,
 }
 
-impl ParametersSpec {
-    pub fn empty() -> Self
-        ensures { result ≡ empty_list }
-    {
-        Self {
-            params: Parameters::new(),
-            indices: DefParamIndices {
-                num_positional_only: 0,
-                num_positional: 0,
-                args: Index::Absent,
-                kwargs: Index::Absent,
-            },
-        }
-    }
-}
-
 impl ParametersSpecBuilder {
     pub fn new() -> Self
         ensures { Empty result }
     {
         Self {
-            codes: [0; CAPACITY],
-            styles: [0; CAPACITY],
-            names: [0; CAPACITY],
-            default_kinds: [0; CAPACITY],
-            default_payloads: [0; CAPACITY],
-            len: 0,
+            params: Parameters::new(),
             positional_only: 0,
             positional: 0,
             current_style: CurrentParameterStyle::PosOnly,
-            args: Index::Absent,
-            kwargs: Index::Absent,
+            args: None,
+            kwargs: None,
         }
     }
 
@@ -104,13 +72,13 @@ impl ParametersSpecBuilder {
                 CurrentParameterStyle::PosOnly
                 | CurrentParameterStyle::PosOrNamed
                 | CurrentParameterStyle::NamedOnly => self.add(area, s),
-                CurrentParameterStyle::NoMore => self.refused(5),
+                CurrentParameterStyle::NoMore => self.refused(Question::OutOfOrder),
             },
             4 => match style {
                 CurrentParameterStyle::PosOnly => self.no_more_positional_only_args(),
-                CurrentParameterStyle::PosOrNamed => self.refused(5), // after another `/`
-                CurrentParameterStyle::NamedOnly => self.refused(5), // after `*`
-                CurrentParameterStyle::NoMore => self.refused(5), // after `**kwargs`
+                CurrentParameterStyle::PosOrNamed => self.refused(Question::OutOfOrder), // after another `/`
+                CurrentParameterStyle::NamedOnly => self.refused(Question::OutOfOrder), // after `*`
+                CurrentParameterStyle::NoMore => self.refused(Question::OutOfOrder), // after `**kwargs`
             },
             5..=6 => match style {
                 CurrentParameterStyle::PosOnly | CurrentParameterStyle::PosOrNamed => {
@@ -120,52 +88,27 @@ impl ParametersSpecBuilder {
                         self.args(s)
                     }
                 }
-                CurrentParameterStyle::NamedOnly | CurrentParameterStyle::NoMore => self.refused(5),
+                CurrentParameterStyle::NamedOnly | CurrentParameterStyle::NoMore => self.refused(
+                    Question::OutOfOrder,
+                ),
             },
             7 => match style {
                 CurrentParameterStyle::PosOnly
                 | CurrentParameterStyle::PosOrNamed
                 | CurrentParameterStyle::NamedOnly => self.kwargs(s),
-                CurrentParameterStyle::NoMore => self.refused(5),
+                CurrentParameterStyle::NoMore => self.refused(Question::OutOfOrder),
             },
-            _ => self.refused(5),
+            _ => self.refused(Question::OutOfOrder),
         }
     }
 
-    // The state as it was, and the question's number.
-    fn refused(self, question: u64) -> Stepped
+    // The state as it was, and the question.
+    fn refused(self, question: Question) -> Stepped
         ensures { result ≡ refused_by question self }
     {
         Stepped {
-            answer: Answer::Refused(question),
             builder: self,
-        }
-    }
-
-    // The state as it is but for the style and the two indices.
-    fn with(self, style: CurrentParameterStyle, args: Index, kwargs: Index) -> Stepped
-        ensures { result ≡ with_style style args kwargs self }
-    {
-        let codes = self.codes;
-        let styles = self.styles;
-        let names = self.names;
-        let default_kinds = self.default_kinds;
-        let default_payloads = self.default_payloads;
-        Stepped {
-            answer: Answer::Fine,
-            builder: Self {
-                codes,
-                styles,
-                names,
-                default_kinds,
-                default_payloads,
-                len: self.len,
-                positional_only: self.positional_only,
-                positional: self.positional,
-                current_style: style,
-                args,
-                kwargs,
-            },
+            answer: Err(question),
         }
     }
 
@@ -173,9 +116,13 @@ impl ParametersSpecBuilder {
     fn under(self, style: CurrentParameterStyle) -> Stepped
         ensures { result ≡ under_style style self }
     {
-        let args = self.args;
-        let kwargs = self.kwargs;
-        self.with(style, args, kwargs)
+        Stepped {
+            builder: Self {
+                current_style: style,
+                ..self
+            },
+            answer: Ok(()),
+        }
     }
 
     // Following parameters can be filled positionally or by name.
@@ -194,53 +141,33 @@ impl ParametersSpecBuilder {
         self.under(CurrentParameterStyle::NamedOnly)
     }
 
-    // A parameter of codes 1 to 3, that is required, optional or defaulted. It is stored here and not by `push`, which would copy the state
-    // once more: most steps are of this kind.
+    // A parameter of codes 1 to 3, that is required, optional or defaulted. It is stored where the state stands and not by the method `push`
+    // below, which would copy the state once more: most steps are of this kind.
     fn add(mut self, area: &[u8], s: Step) -> Stepped
         requires { (1 ≤ s.code) × (s.code < 4) × (comes_before (style_in self) no_more ≡ true) }
         ensures { Stepping area.now self (step_of s) result }
     {
         let style = self.current_style;
-        let i = self.len;
-        let asked = may_add(
-            area,
-            &self.codes,
-            &self.styles,
-            &self.names,
-            i,
-            style,
-            s.name,
-        );
-        if let Answer::Refused(question) = asked {
+        if let Err(question) = may_add(area, &self.params, style, s.name) {
             return self.refused(question);
         }
-        self.codes[i] = s.code as u8;
-        self.styles[i] = style.number();
-        self.names[i] = s.name;
-        self.default_kinds[i] = s.default_kind;
-        self.default_payloads[i] = s.default_payload;
-        self.len = i + 1;
+        let i = self.params.len;
+        self.params.push(s, style);
         self.positional_only = style.positional_only(i, self.positional_only);
         self.positional = style.positional(i, self.positional);
         Stepped {
-            answer: Answer::Fine,
             builder: self,
+            answer: Ok(()),
         }
     }
 
     // One more parameter at the end, under the style so far; counts, style and indices are as they were.
     fn push(mut self, s: Step) -> Self
-        requires { (self.len < 64) × (s.code < 256) }
+        requires { (self.params.len < 64) × (s.code < 256) }
         ensures { Pushed self s result }
     {
         let style = self.current_style;
-        let at = self.len;
-        self.codes[at] = s.code as u8;
-        self.styles[at] = style.number();
-        self.names[at] = s.name;
-        self.default_kinds[at] = s.default_kind;
-        self.default_payloads[at] = s.default_payload;
-        self.len = at + 1;
+        self.params.push(s, style);
         self
     }
 
@@ -249,13 +176,18 @@ impl ParametersSpecBuilder {
         requires { (s.code ≡ 6) × (comes_before (style_in self) named_only ≡ true) }
         ensures { (area : List ℕ) → Stepping area self (step_of s) result }
     {
-        let index = self.len;
+        let index = self.params.len;
         if CAPACITY <= index {
-            return self.refused(6);
+            return self.refused(Question::TooManyParameters);
         }
-        let kwargs = self.kwargs;
-        let pushed = self.push(s);
-        pushed.with(CurrentParameterStyle::NamedOnly, Index::At(index), kwargs)
+        Stepped {
+            builder: Self {
+                current_style: CurrentParameterStyle::NamedOnly,
+                args: Some(index),
+                ..self.push(s)
+            },
+            answer: Ok(()),
+        }
     }
 
     // `**kwargs`, which takes what names are left; nothing follows it.
@@ -263,13 +195,18 @@ impl ParametersSpecBuilder {
         requires { (s.code ≡ 7) × (comes_before (style_in self) no_more ≡ true) }
         ensures { (area : List ℕ) → Stepping area self (step_of s) result }
     {
-        let index = self.len;
+        let index = self.params.len;
         if CAPACITY <= index {
-            return self.refused(6);
+            return self.refused(Question::TooManyParameters);
         }
-        let args = self.args;
-        let pushed = self.push(s);
-        pushed.with(CurrentParameterStyle::NoMore, args, Index::At(index))
+        Stepped {
+            builder: Self {
+                current_style: CurrentParameterStyle::NoMore,
+                kwargs: Some(index),
+                ..self.push(s)
+            },
+            answer: Ok(()),
+        }
     }
 
     // The finished list. The Rust asserts here that `positional_only` is at most `positional`: that holds after every step (`Built`) and of each
@@ -277,49 +214,32 @@ impl ParametersSpecBuilder {
     pub fn finish(self) -> ParametersSpec
         ensures { result ≡ finished self }
     {
-        let codes = self.codes;
-        let styles = self.styles;
-        let names = self.names;
-        let default_kinds = self.default_kinds;
-        let default_payloads = self.default_payloads;
-        let args = self.args;
-        let kwargs = self.kwargs;
         ParametersSpec {
-            params: Parameters {
-                codes,
-                styles,
-                names,
-                default_kinds,
-                default_payloads,
-                len: self.len,
-            },
+            params: self.params,
             indices: DefParamIndices {
                 num_positional_only: self.positional_only,
                 num_positional: self.positional,
-                args,
-                kwargs,
+                args: self.args,
+                kwargs: self.kwargs,
             },
         }
     }
 }
 
-// 6 and 7 of a parameter of codes 1 to 3: is there room, and is its name new where it has to be? The columns are lent.
-fn may_add<'a>(
-    area: &'a [u8],
-    codes: &'a [u8; CAPACITY],
-    styles: &'a [u8; CAPACITY],
-    names: &'a [u64; CAPACITY],
-    len: usize,
+// 6 and 7 of a parameter of codes 1 to 3: is there room, and is its name new where it has to be?
+fn may_add(
+    area: &[u8],
+    params: &Parameters,
     style: CurrentParameterStyle,
     name: u64,
-) -> Answer
-    ensures { answer_of result ≡ ask_adding area.now codes.now styles.now names.now len (style_of style) name }
+) -> Result<(), Question>
+    ensures { answer_of result ≡ ask_adding area.now params.now (style_of style) name }
 {
-    if CAPACITY <= len {
-        return Answer::Refused(6);
+    if CAPACITY <= params.len {
+        return Err(Question::TooManyParameters);
     }
-    if !name_is_new(area, codes, styles, names, len, style, name) {
-        return Answer::Refused(7);
+    if !name_is_new(area, params, style, name) {
+        return Err(Question::RepeatedParameter);
     }
-    Answer::Fine
+    Ok(())
 }

@@ -2,9 +2,10 @@
 // each kind. A line says what was asked and the number of the refusal, 0 for none, or the index found.
 #![tactic(auto)]
 
+use builder::build;
 use builder::spec::ParametersSpec;
-use cells::answer::Answer;
-use lookup::Finding;
+use cells::question::Question;
+use lookup::get_str;
 
 // Names in the area of main: a payload is start × 256 + length.
 const A: u64 = 1;
@@ -74,10 +75,8 @@ impl Record {
     // As many required parameters of one name.
     fn required(self, name: u64, times: u64) -> Self {
         let mut record = self;
-        let mut i = 0;
-        while i < times {
+        for _ in 0..times {
             record = record.add(REQUIRED, name);
-            i += 1;
         }
         record
     }
@@ -219,32 +218,20 @@ fn names(area: &[u8]) {
 
 // One line: what is asked, and the number of the refusal.
 fn case(area: &[u8], label: &[u8], record: Record) {
-    let finished = built(area, record);
-    let answer = finished.answer;
+    let number = match built(area, record) {
+        Ok(_) => 0,
+        Err(question) => question.number(),
+    };
     io::write_all(1, label);
     io::write_all(1, b": ");
-    io::print_decimal(1, number(answer));
+    io::print_decimal(1, number);
     io::write_all(1, b"\n");
 }
 
-fn built(area: &[u8], record: Record) -> builder::Finished {
-    let cells = record.cells;
-    builder::build(front(&cells, record.len), area)
-}
-
-// The first cells of a record; all where it has fewer.
-fn front(cells: &[u64], len: usize) -> &[u64] {
-    if cells.len() < len {
-        return cells;
-    }
-    &cells[0..len]
-}
-
-fn number(answer: Answer) -> u64 {
-    match answer {
-        Answer::Fine => 0,
-        Answer::Refused(question) => question,
-    }
+// The list of a record's first cells; of all where it has fewer.
+fn built(area: &[u8], record: Record) -> Result<ParametersSpec, Question> {
+    let cells = &record.cells;
+    build(cells.get(..record.len).unwrap_or(cells), area)
 }
 
 // A lookup of each kind in the list a, /, b, start, *args, c, **kwargs.
@@ -253,30 +240,34 @@ fn lookups(area: &[u8]) {
         .add(REQUIRED, A)
         .add(SLASH, 0)
         .add(OPTIONAL, B)
-        .step(DEFAULTED, START, 1, 0);
-    let list = built(area, record.add(ARGS, 0).add(REQUIRED, C).add(KWARGS, 0)).list;
-    finding(area, list, b"a");
-    finding(area, list, b"b");
-    finding(area, list, b"start");
-    finding(area, list, b"star");
-    finding(area, list, b"starts");
-    finding(area, list, b"c");
-    finding(area, list, b"*args");
-    finding(area, list, b"");
+        .step(DEFAULTED, START, 1, 0)
+        .add(ARGS, 0)
+        .add(REQUIRED, C)
+        .add(KWARGS, 0);
+    if let Ok(list) = built(area, record) {
+        finding(area, &list, b"a");
+        finding(area, &list, b"b");
+        finding(area, &list, b"start");
+        finding(area, &list, b"star");
+        finding(area, &list, b"starts");
+        finding(area, &list, b"c");
+        finding(area, &list, b"*args");
+        finding(area, &list, b"");
+    }
 }
 
 // One line: the name, and the index found.
-fn finding(area: &[u8], list: ParametersSpec, name: &[u8]) {
+fn finding(area: &[u8], list: &ParametersSpec, name: &[u8]) {
     io::write_all(1, b"find ");
     io::write_all(1, name);
-    match lookup::get_str(list, area, name) {
-        Finding::At(i) => {
-            io::write_all(1, b": ");
+    io::write_all(1, b": ");
+    match get_str(list, area, name) {
+        Some(i) => {
             io::print_decimal(1, i as u64);
-            io::write_all(1, b"\n");
         }
-        Finding::Unknown => {
-            io::write_all(1, b": none\n");
+        None => {
+            io::write_all(1, b"none");
         }
     }
+    io::write_all(1, b"\n");
 }

@@ -1,11 +1,11 @@
 -- Questions 9 to 13 (01, the questions, call record), as the code asks them, by the head of the record and the indices at which its
--- parts begin. In this order: counts that are few, as bounds; kinds past 2; what is well formed, part by part; each question as one
+-- parts begin. In this order: counts that are few, as bounds; what is well formed, part by part; each question as one
 -- of the head or of runs of cells; the bounds that 9 gives; what 11 leaves to 12 and 13; the answers of `ask_form` and `ask_call`
 -- taken apart where they are fine; and 13 after the others. `h` is the head that was read. Assumes nothing.
 use mathlib.Core.Path.{◌≡◌, refl, sym, ap, ◌∙◌}
-use mathlib.Core.Bool.{true, false, ◌&&◌}
+use mathlib.Core.Bool.{true, ◌&&◌}
 use mathlib.Core.List.{List}
-use Prim.Native.Nat.{ℕ, zero, suc, ◌+◌, ◌*◌, ◌≤◌}
+use Prim.Native.Nat.{ℕ, ◌+◌, ◌*◌, ◌≤◌}
 use native.Mathlib.Omega.{arith}
 use lib.Dec.{leb, eqb}
 use lib.ListN.{length}
@@ -40,14 +40,7 @@ few_bounds B h e =
       few_d = leb-true h.d B (and_right (leb h.p B && leb h.n B && leb h.s B) (leb h.d B) e);
     }
 
--- ---- one star, and the parts
-
--- there are no kinds past 2
-pub kind_past : (kind count : ℕ) → (kind ≡ 0 → ⊥) → (kind ≡ 1 → ⊥) → (kind ≡ 2 → ⊥) → kind_right kind count ≡ false
-kind_past zero count l m n = absurd (l refl)
-kind_past (suc zero) count l m n = absurd (m refl)
-kind_past (suc (suc zero)) count l m n = absurd (n refl)
-kind_past (suc (suc (suc kind))) count l m n = refl
+-- ---- the parts
 
 -- what is well formed as a whole is so in each part
 module _ (area : List ℕ) (r : CallRecord) (e : parts_well_formed area r ≡ true) where

@@ -1,20 +1,20 @@
 -- Question 11 (01, the questions, call record) as the code asks it: of a value, a name and a key, by what reading the two cells answered; of
--- a run of them, for a loop that walks it; of a run of pairs, by the run of what stands first in each and the run of the values. And the
+-- a run of them, by number; of a run of pairs, by the run of what stands first in each and the run of the values. And the
 -- name of a written pair and the key of an entry that are well formed. Assumes nothing.
-use mathlib.Core.Path.{◌≡◌, refl, sym, ap, ◌∙◌}
+use Rattle.std.specs.Prelude.{Some, None}
+use Rattle.std.specs.Option.{is_some}
+use mathlib.Core.Path.{◌≡◌, refl, ap, ◌∙◌}
 use mathlib.Core.Bool.{Bool, true, false, cond, ◌&&◌}
 use mathlib.Core.List.{List}
-use Prim.Native.Nat.{ℕ, zero, suc, ◌+◌, ◌-◌, ◌*◌, ◌<◌, ◌≤◌}
-use native.Mathlib.Nat.{mul-suc}
-use native.Mathlib.Numerals.{add-one}
+use Prim.Native.Nat.{ℕ, zero, suc, ◌+◌, ◌-◌, ◌*◌, ◌<◌}
 use native.Mathlib.Omega.{arith}
 use lib.Dec.{eqb}
 use lib.ListN.{drop, get_or}
 use lib.Seq.{drop-drop}
 use mir.Syntax.{w64}
 use mir.Val.{to_z}
-use Rattle.rules.specs.Listing.{all}
-use Rattle.rules.specs.Value.{Value, value_width, read_value, call_text, well_formed_argument, well_formed_name, well_formed_key}
+use Rattle.rules.specs.Cells.{read_each}
+use Rattle.rules.specs.Value.{no_value, value_width, read_value, call_text, well_formed_argument, well_formed_name, well_formed_key}
 use Rattle.rules.specs.CallRecord.{pair_width, read_pair}
 use Rattle.rules.specs.CallQuestions.{well_formed_pair, well_formed_entry}
 use Rattle.rules.proofs.LawsListing.{and_left}
@@ -22,91 +22,48 @@ use Rattle.cells.specs.Text.{text_of}
 use Rattle.cells.specs.Value.{value, value_as, read_argument, read_name, read_key}
 use Rattle.cells.specs.Record.{pair_at}
 use Rattle.cells.proofs.LawsRecord.{pair_at_is}
-use Rattle.cells.specs.declared.text.ReadText.{ReadText}
-use Rattle.cells.specs.declared.text.ReadText.TheVariants as text
-use Rattle.cells.specs.declared.value.ReadValue.{ReadValue}
-use Rattle.cells.specs.declared.value.ReadValue.TheVariants as argument
-use Rattle.cells.specs.declared.value.ReadKey.{ReadKey}
-use Rattle.cells.specs.declared.value.ReadKey.TheVariants as key
+use Rattle.cells.specs.declared.value.Key.TheVariants.{Word, Number}
 use Rattle.calls.specs.declared.form.Role.{Role}
 use Rattle.calls.specs.declared.form.Role.TheVariants as role
 use Rattle.calls.specs.Runs.{formed_as, run_formed, pairs_formed}
-use Rattle.calls.proofs.LawsEach.{each_next, each_none}
+use Rattle.calls.proofs.LawsEach.{each_at}
 
 -- ---- two cells
 
--- was a value read, a name, a key?
-abbrev pub argument_read : ReadValue → Bool
-argument_read (argument.Is v) = true
-argument_read argument.Not = false
+-- a value, a name or a key was read where the two cells are one
+pub argument_read : (area : List ℕ) (kind payload : ℕ) → is_some (read_argument area kind payload) ≡ formed_as role.Argument area (value kind payload)
+unfolding read_argument
+argument_read area kind payload = go (well_formed_argument area (value kind payload))
+  where
+    go : (b : Bool) → is_some (cond b (Some (value_as kind payload)) None) ≡ b
+    go true = refl
+    go false = refl
 
-abbrev pub name_read : ReadText → Bool
-name_read (text.Is t) = true
-name_read text.Not = false
+pub name_read : (area : List ℕ) (kind payload : ℕ) → is_some (read_name area kind payload) ≡ formed_as role.Name area (value kind payload)
+unfolding read_name
+name_read area kind payload = go (well_formed_name area (value kind payload))
+  where
+    go : (b : Bool) → is_some (cond b (Some (text_of payload)) None) ≡ b
+    go true = refl
+    go false = refl
 
-abbrev pub key_read : ReadKey → Bool
-key_read (key.Word t) = true
-key_read (key.Number z) = true
-key_read key.Not = false
-
-module _ (asked : Role) (area : List ℕ) (kind payload : ℕ) where
-  pub argument_formed : asked ≡ role.Argument → (r : ReadValue) → r ≡ read_argument area kind payload → argument_read r ≡ formed_as asked area (value kind payload)
-  unfolding read_argument
-  argument_formed a r e = ap argument_read e ∙ go (well_formed_argument area (value kind payload)) ∙ ap (λ (x : Role). formed_as x area (value kind payload)) (sym a)
-    where
-      go : (b : Bool) → argument_read (cond b (argument.Is (value_as kind payload)) argument.Not) ≡ b
-      go true = refl
-      go false = refl
-
-  pub name_formed : asked ≡ role.Name → (r : ReadText) → r ≡ read_name area kind payload → name_read r ≡ formed_as asked area (value kind payload)
-  unfolding read_name
-  name_formed a r e = ap name_read e ∙ go (well_formed_name area (value kind payload)) ∙ ap (λ (x : Role). formed_as x area (value kind payload)) (sym a)
-    where
-      go : (b : Bool) → name_read (cond b (text.Is (text_of payload)) text.Not) ≡ b
-      go true = refl
-      go false = refl
-
-  pub key_formed : asked ≡ role.Key → (r : ReadKey) → r ≡ read_key area kind payload → key_read r ≡ formed_as asked area (value kind payload)
-  unfolding read_key
-  key_formed a r e = ap key_read e ∙ go (well_formed_key area (value kind payload)) (eqb kind call_text) ∙ ap (λ (x : Role). formed_as x area (value kind payload)) (sym a)
-    where
-      go : (b t : Bool) → key_read (cond b (cond t (key.Word (text_of payload)) (key.Number (to_z w64 payload))) key.Not) ≡ b
-      go true true = refl
-      go true false = refl
-      go false t = refl
+pub key_read : (area : List ℕ) (kind payload : ℕ) → is_some (read_key area kind payload) ≡ formed_as role.Key area (value kind payload)
+unfolding read_key
+key_read area kind payload = go (well_formed_key area (value kind payload))
+  where
+    go : (b : Bool) → is_some (cond b (Some (cond (eqb kind call_text) (Word (text_of payload)) (Number (to_z w64 payload)))) None) ≡ b
+    go true = refl
+    go false = refl
 
 -- ---- a run
 
-module _ (asked : Role) (area cells : List ℕ) (from width count : ℕ) where
-  -- all that is left of the run from number k on
-  abbrev pub run_left : ℕ → Bool
-  run_left k = run_formed asked area cells (from + width * k) width (count - k)
-
-  pub run_start : run_formed asked area cells from width count ≡ run_left 0
-  run_start =
-      let e : from + width * 0 ≡ from = omega arith in
-      let n : count - 0 ≡ count = omega arith in
-      rw (e, n)
-
-  pub run_end : (k : ℕ) → count ≤ k → run_left k ≡ true
-  run_end k past = ap (all (formed_as asked area)) (each_none width read_value (drop (from + width * k) cells) (count - k) (omega arith))
-
-  module _ (k : ℕ) (below : k < count) where
-    abbrev here : Value
-    here = value (get_or cells (from + width * k) 0) (get_or cells (from + width * k + 1) 0)
-
-    run_step : run_left k ≡ (formed_as asked area here && run_left (k + 1))
-    unfolding pair_at
-    run_step =
-        let n : count - k - 1 ≡ count - (k + 1) = omega arith in
-        let m : from + width * k + width ≡ from + width * (k + 1) = omega (arith, mul-suc width k, ap (λ (j : ℕ). width * j) (add-one k)) in
-        rw (← n, ← m, ← pair_at_is cells (from + width * k)) (ap (all (formed_as asked area)) (each_next width read_value cells (from + width * k) (count - k) (omega arith)))
-
-    pub run_passes : formed_as asked area here ≡ true → run_left k ≡ run_left (k + 1)
-    run_passes e = run_step ∙ ap (λ b. b && run_left (k + 1)) e
-
-    pub run_fails : formed_as asked area here ≡ false → run_left k ≡ false
-    run_fails e = run_step ∙ ap (λ b. b && run_left (k + 1)) e
+-- number k of a run by its two cells
+pub run_at : (asked : Role) (area cells : List ℕ) (from width count k : ℕ) → k < count
+    → formed_as asked area (get_or (read_each width read_value count (drop from cells)) k no_value)
+    ≡ formed_as asked area (value (get_or cells (from + width * k) 0) (get_or cells (from + width * k + 1) 0))
+unfolding pair_at
+run_at asked area cells from width count k below =
+    ap (formed_as asked area) (each_at width read_value cells from count k no_value below ∙ pair_at_is cells (from + width * k))
 
 -- ---- a run of pairs
 

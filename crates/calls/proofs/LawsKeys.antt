@@ -1,19 +1,20 @@
 -- Keys and names that are well formed (01, questions 11 to 13), as the code reads them: that the bytes of such a text are those that
 -- `rules` compares; what reading a key answers, beside the key that `rules` has there; that two keys that were read are equal when
 -- `rules` says so; and that a written name is a key that is a text, so that 13 is 12 asked of the written pairs. Assumes nothing.
+use Rattle.std.specs.Prelude.{Some}
 use mathlib.Core.Path.{◌≡◌, refl, sym, ap, ap₂, ◌∙◌}
 use mathlib.Core.Bool.{Bool, true, false, not, ◌&&◌, ◌||◌}
 use mathlib.Core.List.{List, [], ◌∷◌, map}
-use Prim.Native.Nat.{ℕ, ◌+◌, ◌-◌, ◌<◌, ◌≤◌}
+use Prim.Native.Nat.{ℕ, ◌+◌, ◌-◌, ◌<◌}
 use lib.Dec.{eqb, leb}
-use lib.ListN.{drop, get_or}
+use lib.ListN.{get_or}
 use mir.Syntax.{w64}
 use mir.Val.{Fits, to_z}
 use mir.ValLaws.{of_z-to_z}
 use borrow.Author.Tests.{eqb-true}
 use Rattle.rules.specs.Text.{size_of, bytes_at, inside, is_text, Text, text_in, same_bytes, among, differ}
 use Rattle.rules.specs.Value.{Value, call_text, well_formed_argument, well_formed_name, well_formed_key}
-use Rattle.rules.specs.CallRecord.{Pair, pair_width, read_pair, word, number, key_in, named_in}
+use Rattle.rules.specs.CallRecord.{Pair, pair_width, word, number, key_in, named_in}
 use Rattle.rules.specs.CallQuestions.{well_formed_pair, well_formed_entry, same_key, keys_differ}
 use Rattle.rules.proofs.LawsListing.{and_left, and_right, and_both, all_imp, map_where, map_map}
 use Rattle.rules.proofs.LawsText.{payload_of_halves, is_text_weaker}
@@ -21,10 +22,10 @@ use Rattle.cells.specs.Text.{text_of, part_at}
 use Rattle.cells.specs.Value.{read_key}
 use Rattle.cells.specs.Record.{pair_at, key_at}
 use Rattle.cells.proofs.LawsRecord.{pair_at_is}
-use Rattle.cells.specs.declared.value.ReadKey.TheVariants.{Word, Number}
-use Rattle.calls.specs.Runs.{pairs_at, Formed, key_there, keys_of, keys_at, new_key, names_at}
+use Rattle.cells.specs.declared.value.Key.TheVariants.{Word, Number}
+use Rattle.calls.specs.Runs.{pairs_at, Formed, key_there, keys_at, new_key, names_at}
 use Rattle.calls.specs.Keys.{same_read}
-use Rattle.calls.proofs.LawsEach.{each_none, keys_next}
+use Rattle.calls.proofs.LawsEach.{keys_next}
 
 -- ---- the bytes of a text
 
@@ -41,9 +42,9 @@ payload_fits cells at f = rw (pair_at_is cells at) f
 
 -- a well-formed key is a text, with its bytes inside the area, or a whole number
 pub data Seen (area : List ℕ) (v : Value) : Type 0 where
-  as_word : read_key area v.kind v.payload ≡ Word (text_of v.payload) → key_in area v ≡ word (text_in area v.payload)
+  as_word : read_key area v.kind v.payload ≡ Some (Word (text_of v.payload)) → key_in area v ≡ word (text_in area v.payload)
       → part_at area v.payload ≡ bytes_at area v.payload → Seen area v
-  as_number : read_key area v.kind v.payload ≡ Number (to_z w64 v.payload) → key_in area v ≡ number v.payload → Seen area v
+  as_number : read_key area v.kind v.payload ≡ Some (Number (to_z w64 v.payload)) → key_in area v ≡ number v.payload → Seen area v
 
 pub text_inside : (least : ℕ) (area : List ℕ) (payload : ℕ) → is_text least area payload ≡ true → inside area payload ≡ true
 unfolding is_text
@@ -90,9 +91,6 @@ module _ (area cells : List ℕ) (key at left : ℕ) (some : 0 < left) where
 
   pub new_fails : same_key (key_there area cells key) (key_there area cells at) ≡ true → new_at area cells key at left ≡ false
   new_fails e = ap (new_key (key_there area cells key)) (keys_next area cells at left some) ∙ rw e
-
-pub new_end : (area cells : List ℕ) (key at left : ℕ) → left ≤ 0 → new_at area cells key at left ≡ true
-new_end area cells key at left h = ap (λ ps. new_key (key_there area cells key) (keys_of area ps)) (each_none pair_width read_pair (drop at cells) left h)
 
 -- ---- a written name is a key that is a text
 

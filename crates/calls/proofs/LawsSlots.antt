@@ -3,7 +3,7 @@
 use mathlib.Core.Path.{◌≡◌, refl, sym, ap, subst, ◌∙◌}
 use mathlib.Core.Bool.{Bool, true, false, not, false≢true}
 use mathlib.Core.List.{List, [], ◌∷◌, ◌++◌}
-use Prim.Native.Nat.{ℕ, zero, suc, ◌+◌, ◌-◌, ◌*◌, ◌%◌, ◌<◌, ◌≤◌}
+use Prim.Native.Nat.{ℕ, ◌+◌, ◌-◌, ◌*◌, ◌%◌, ◌<◌, ◌≤◌}
 use native.Mathlib.Omega.{arith}
 use lib.Dec.{eqb}
 use lib.ListN.{length, drop, get_or, set, length-set}
@@ -121,26 +121,10 @@ differ_back [] ls e = e
 differ_back (k ∷ ks) ls e = and_no_right (new_key k (ks ++ ls)) (keys_differ (ks ++ ls)) (differ_back ks ls e)
 
 module _ (area cells : List ℕ) (from count : ℕ) where
-  -- where nothing stands behind another nothing is asked
-  pub walked_none : count < 2 → keys_differ (keys_at area cells from count) ≡ true
-  walked_none h = go count h
-    where
-      go : (n : ℕ) → n < 2 → keys_differ (keys_at area cells from n) ≡ true
-      go zero l = refl
-      go (suc zero) l = refl
-      go (suc (suc n)) l = absurd (omega arith)
-
   pub walked_start : (marks : List ℕ) → length marks ≡ slots → Walked area cells marks from count count
   walked_start marks w =
       let n : count - count ≡ 0 = omega arith in
       record { few = omega arith; wide = w; apart = rw n; seen = rw n }
-
-  pub walked_end : (marks : List ℕ) (left : ℕ) → left ≤ 0 → Walked area cells marks from count left → keys_differ (keys_at area cells from count) ≡ true
-  walked_end marks zero h w =
-      let e : from + pair_width * 0 ≡ from = omega arith in
-      let n : count - 0 ≡ count = omega arith in
-      subst (λ (j : ℕ). keys_differ (keys_at area cells from j) ≡ true) n (subst (λ (j : ℕ). keys_differ (keys_at area cells j (count - 0)) ≡ true) e w.apart)
-  walked_end marks (suc left) h w = absurd (omega arith)
 
   module _ (marks : List ℕ) (left : ℕ) (some : 0 < left) (w : Walked area cells marks from count left) where
     abbrev last : Key

@@ -13,7 +13,7 @@ use crate::head::PAIR;
 use crate::slot::{SLOTS, key_slot};
 use cells::record::key_at;
 use cells::text::same_text;
-use cells::value::ReadKey;
+use cells::value::Key;
 
 // 12, of the `count` entries from `from` on, and 13, of written pairs. The keys are taken from the last one back, with a mark at the slot of
 // each: one whose slot has no mark is none of those behind it. Fewer than two need no marks. The Rust puts the names into a set; the marks
@@ -26,11 +26,8 @@ pub(crate) fn keys_differ(cells: &[u64], area: &[u8], from: usize, count: usize)
         return true;
     }
     let mut marks: [u8; SLOTS] = [0; SLOTS];
-    let mut left = count;
-    while 0 < left {
-        let behind = count - left;
-        left -= 1;
-        let at = from + PAIR * left;
+    for behind in 0..count {
+        let at = from + PAIR * (count - behind - 1);
         let slot = key_slot(cells, area, at);
         if !key_new(cells, area, at, behind, marks[slot]) {
             return false;
@@ -49,33 +46,24 @@ fn key_new(cells: &[u64], area: &[u8], key: usize, count: usize, mark: u8) -> bo
         return true;
     }
     let here = key_at(area, cells, key);
-    let mut at = key + PAIR;
-    let mut left = count;
-    while 0 < left {
-        if same_read(area, here, key_at(area, cells, at)) {
+    let first = key + PAIR;
+    for k in 0..count {
+        if same_read(area, here, key_at(area, cells, first + PAIR * k)) {
             return false;
         }
-        at += PAIR;
-        left -= 1;
     }
     true
 }
 
-// Texts are equal by their bytes, whole numbers by their value; a text is never equal to a whole number.
-fn same_read(area: &[u8], a: ReadKey, b: ReadKey) -> bool
+// Texts are equal by their bytes, whole numbers by their value; a text is never equal to a whole number, and what is no key to nothing.
+fn same_read(area: &[u8], a: Option<Key>, b: Option<Key>) -> bool
     ensures { result ≡ same_read area.now a b }
 {
-    match a {
-        ReadKey::Word(t) => match b {
-            ReadKey::Word(u) => same_text(area, t.payload(), area, u.payload()),
-            ReadKey::Number(_) => false,
-            ReadKey::Not => false,
-        },
-        ReadKey::Number(m) => match b {
-            ReadKey::Word(_) => false,
-            ReadKey::Number(n) => m == n,
-            ReadKey::Not => false,
-        },
-        ReadKey::Not => false,
+    match (a, b) {
+        (Some(Key::Word(t)), Some(Key::Word(u))) => {
+            same_text(area, t.payload(), area, u.payload())
+        }
+        (Some(Key::Number(m)), Some(Key::Number(n))) => m == n,
+        _ => false,
     }
 }

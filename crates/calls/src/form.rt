@@ -7,18 +7,14 @@ ghost use Rattle.cells.specs.Value.{value};
 ghost use Rattle.calls.specs.Runs.{formed_as, run_formed, pairs_formed};
 
 use crate::head::{HEAD, PAIR, VALUE, entries_from, few, items_from, named_from, read_head};
-use cells::text::ReadText;
-use cells::value::{ReadKey, ReadValue, read_argument, read_key, read_name};
+use cells::value::{read_argument, read_key, read_name};
 
 // 9. The counts are looked at before they are added up.
 pub fn lengths_right(cells: &[u64]) -> bool
     ensures { result ≡ lengths_right 64 cells.now }
 {
     let h = read_head(cells);
-    if !few(h) {
-        return false;
-    }
-    cells.len() == entries_from(h) + PAIR * h.d
+    few(h) && cells.len() == entries_from(h) + PAIR * h.d
 }
 
 // 10, of one star: its kind is 0, 1 or 2, and only kind 1 has anything in it.
@@ -26,9 +22,8 @@ fn kind_right(kind: u64, count: usize) -> bool
     ensures { result ≡ kind_right kind count }
 {
     match kind {
-        0 => count == 0,
+        0 | 2 => count == 0,
         1 => true,
-        2 => count == 0,
         _ => false,
     }
 }
@@ -38,14 +33,11 @@ pub fn kinds_right(cells: &[u64]) -> bool
     ensures { result ≡ kinds_right (read_call cells.now) }
 {
     let h = read_head(cells);
-    if !kind_right(h.star_kind, h.s) {
-        return false;
-    }
-    kind_right(h.double_kind, h.d)
+    kind_right(h.star_kind, h.s) && kind_right(h.double_kind, h.d)
 }
 
 // What the two cells of a value, a name or a key are asked to be.
-#[derive(Clone, Copy)]
+#[derive(Clone, Copy, Debug, PartialEq, Eq)]
 pub(crate) enum Role {
     Argument,
     Name,
@@ -58,16 +50,10 @@ pub(crate) fn parts_formed(cells: &[u64], area: &[u8]) -> bool
     ensures { result ≡ parts_well_formed area.now (read_call cells.now) }
 {
     let h = read_head(cells);
-    if !run_formed(Role::Argument, cells, area, HEAD, VALUE, h.p) {
-        return false;
-    }
-    if !pairs_formed(Role::Name, cells, area, named_from(h), h.n) {
-        return false;
-    }
-    if !run_formed(Role::Argument, cells, area, items_from(h), VALUE, h.s) {
-        return false;
-    }
-    pairs_formed(Role::Key, cells, area, entries_from(h), h.d)
+    run_formed(Role::Argument, cells, area, HEAD, VALUE, h.p)
+        && pairs_formed(Role::Name, cells, area, named_from(h), h.n)
+        && run_formed(Role::Argument, cells, area, items_from(h), VALUE, h.s)
+        && pairs_formed(Role::Key, cells, area, entries_from(h), h.d)
 }
 
 // 11, of the `count` pairs from `from` on: names or keys, as `role` says, each with a value behind it.
@@ -75,10 +61,8 @@ fn pairs_formed(role: Role, cells: &[u64], area: &[u8], from: usize, count: usiz
     requires { from + pair_width * count ≤ length cells.now }
     ensures { result ≡ pairs_formed role area.now cells.now from count }
 {
-    if !run_formed(role, cells, area, from, PAIR, count) {
-        return false;
-    }
-    run_formed(Role::Argument, cells, area, from + VALUE, PAIR, count)
+    run_formed(role, cells, area, from, PAIR, count)
+        && run_formed(Role::Argument, cells, area, from + VALUE, PAIR, count)
 }
 
 // 11, of `count` values, names or keys that begin `width` cells apart, from `from` on.
@@ -93,15 +77,10 @@ fn run_formed(
     requires { (k : ℕ) → k < count → from + width * k + 2 ≤ length cells.now }
     ensures { result ≡ run_formed role area.now cells.now from width count }
 {
-    let mut k = 0;
-    while k < count {
+    (0..count).all(|k| {
         let at = from + width * k;
-        if !formed_as(role, area, cells[at], cells[at + 1]) {
-            return false;
-        }
-        k += 1;
-    }
-    true
+        formed_as(role, area, cells[at], cells[at + 1])
+    })
 }
 
 // Two cells are well formed if reading them gives something.
@@ -109,18 +88,8 @@ fn formed_as(role: Role, area: &[u8], kind: u64, payload: u64) -> bool
     ensures { result ≡ formed_as role area.now (value kind payload) }
 {
     match role {
-        Role::Argument => match read_argument(area, kind, payload) {
-            ReadValue::Is(_) => true,
-            ReadValue::Not => false,
-        },
-        Role::Name => match read_name(area, kind, payload) {
-            ReadText::Is(_) => true,
-            ReadText::Not => false,
-        },
-        Role::Key => match read_key(area, kind, payload) {
-            ReadKey::Word(_) => true,
-            ReadKey::Number(_) => true,
-            ReadKey::Not => false,
-        },
+        Role::Argument => read_argument(area, kind, payload).is_some(),
+        Role::Name => read_name(area, kind, payload).is_some(),
+        Role::Key => read_key(area, kind, payload).is_some(),
     }
 }

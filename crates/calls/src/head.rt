@@ -12,7 +12,7 @@ pub const VALUE: usize = 2;
 
 pub const PAIR: usize = 4;
 
-#[derive(Clone, Copy)]
+#[derive(Clone, Copy, Debug, PartialEq, Eq)]
 pub struct Head {
     pub p: usize,
     pub n: usize,
@@ -39,16 +39,7 @@ pub fn read_head(cells: &[u64]) -> Head
 pub fn few(h: Head) -> bool
     ensures { result ≡ at_most 64 (head_of h) }
 {
-    if 64 < h.p {
-        return false;
-    }
-    if 64 < h.n {
-        return false;
-    }
-    if 64 < h.s {
-        return false;
-    }
-    h.d <= 64
+    h.p <= 64 && h.n <= 64 && h.s <= 64 && h.d <= 64
 }
 
 // Where the written pairs begin: behind the head and the written values.

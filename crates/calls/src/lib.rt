@@ -5,13 +5,13 @@
 ghost use Rattle.std.specs.Prelude.{◌≡◌};
 ghost use Rattle.rules.specs.Answer.{fine};
 ghost use Rattle.rules.specs.CallQuestions.{ask_form, ask_call};
-ghost use Rattle.cells.specs.Answer.{answer_of};
+ghost use Rattle.cells.specs.Question.{answer_of};
 ghost use Rattle.calls.specs.Keys.{ask_keys};
 
 use crate::differ::keys_differ;
 use crate::form::{kinds_right, lengths_right, parts_formed};
 use crate::head::{entries_from, named_from, read_head};
-use cells::answer::Answer;
+use cells::question::Question;
 
 pub mod differ;
 pub mod form;
@@ -21,55 +21,49 @@ pub mod slot;
 pub mod values;
 
 // Questions 9 to 11, which can-fill asks too.
-pub fn ask_form(cells: &[u64], area: &[u8]) -> Answer
+pub fn ask_form(cells: &[u64], area: &[u8]) -> Result<(), Question>
     ensures { answer_of result ≡ ask_form 64 cells.now area.now }
 {
     if !lengths_right(cells) {
-        return Answer::Refused(9);
+        return Err(Question::WrongLength);
     }
     if !kinds_right(cells) {
-        return Answer::Refused(10);
+        return Err(Question::WrongKind);
     }
     if !parts_formed(cells, area) {
-        return Answer::Refused(11);
+        return Err(Question::MalformedPart);
     }
-    Answer::Fine
+    Ok(())
 }
 
 // Questions 9 to 12: all but 13, which binding answers by what the names mean.
-pub fn ask_keys(cells: &[u64], area: &[u8]) -> Answer
+pub fn ask_keys(cells: &[u64], area: &[u8]) -> Result<(), Question>
     ensures { answer_of result ≡ ask_keys 64 cells.now area.now }
 {
-    let form = ask_form(cells, area);
-    if let Answer::Refused(_) = form {
-        return form;
-    }
+    ask_form(cells, area)?;
     ask_entries(cells, area)
 }
 
 // The same of a record that has passed 9 to 11: 12 is left.
-pub fn ask_entries(cells: &[u64], area: &[u8]) -> Answer
+pub fn ask_entries(cells: &[u64], area: &[u8]) -> Result<(), Question>
     requires { ask_form 64 cells.now area.now ≡ fine }
     ensures { answer_of result ≡ ask_keys 64 cells.now area.now }
 {
     let h = read_head(cells);
     if !keys_differ(cells, area, entries_from(h), h.d) {
-        return Answer::Refused(12);
+        return Err(Question::RepeatedKey);
     }
-    Answer::Fine
+    Ok(())
 }
 
 // Questions 9 to 13.
-pub fn ask_call(cells: &[u64], area: &[u8]) -> Answer
+pub fn ask_call(cells: &[u64], area: &[u8]) -> Result<(), Question>
     ensures { answer_of result ≡ ask_call 64 cells.now area.now }
 {
-    let keys = ask_keys(cells, area);
-    if let Answer::Refused(_) = keys {
-        return keys;
-    }
+    ask_keys(cells, area)?;
     let h = read_head(cells);
     if !keys_differ(cells, area, named_from(h), h.n) {
-        return Answer::Refused(13);
+        return Err(Question::RepeatedName);
     }
-    Answer::Fine
+    Ok(())
 }

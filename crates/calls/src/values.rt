@@ -19,11 +19,9 @@ pub fn write_values(cells: &[u64], h: Head, from: usize, count: usize, at: usize
     requires { (from ≤ 128) × (at + 2 * count ≤ length board.old) }
     ensures { board.new ≡ stored board.old at (write_each value_cells (values_in cells.now (head_of h) from count)) }
 {
-    let mut k = 0;
-    while k < count {
+    for k in 0..count {
         let position = position_at(h, from + k);
         put_inside(board, at + VALUE * k, pair_at(cells, position));
-        k += 1;
     }
 }
 
@@ -40,12 +38,8 @@ pub fn copy_values(cells: &[u64], from: usize, count: usize, at: usize, board: &
     requires { (count ≤ 64) × (from + 2 * count ≤ length cells.now) × (at + 2 * count ≤ length board.old) }
     ensures { board.new ≡ stored board.old at (take (2 * count) (drop from cells.now)) }
 {
-    let end = VALUE * count;
-    let mut k = 0;
-    while k < end {
-        board[at + k] = cells[from + k];
-        k += 1;
-    }
+    let size = VALUE * count;
+    board[at..at + size].copy_from_slice(&cells[from..from + size]);
 }
 
 // The values of `count` pairs that stand side by side from a cell on, stored from cell `at` on.
@@ -53,14 +47,9 @@ pub fn copy_named(cells: &[u64], from: usize, count: usize, at: usize, board: &m
     requires { (count ≤ 64) × (from + 4 * count ≤ length cells.now) × (at + 2 * count ≤ length board.old) }
     ensures { board.new ≡ stored board.old at (write_each value_cells (listed (λ k. pair_at cells.now (from + 4 * k + 2)) 0 count)) }
 {
-    let mut k = 0;
-    while k < count {
+    for k in 0..count {
         let value = from + PAIR * k + VALUE;
-        let pair = Pair {
-            kind: cells[value],
-            payload: cells[value + 1],
-        };
+        let pair = Pair::new(cells[value], cells[value + 1]);
         put_inside(board, at + VALUE * k, pair);
-        k += 1;
     }
 }

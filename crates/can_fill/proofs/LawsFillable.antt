@@ -3,7 +3,7 @@
 -- `h` is the head that was read.
 -- Assumes nothing.
 use mathlib.Core.Path.{◌≡◌, refl, sym, ap, ◌∙◌}
-use mathlib.Core.Bool.{true}
+use mathlib.Core.Bool.{Bool, true}
 use mathlib.Core.List.{List, map}
 use Prim.Native.Nat.{ℕ, ◌+◌, ◌*◌, ◌<◌}
 use native.Mathlib.Omega.{arith}
@@ -26,8 +26,9 @@ use Rattle.findings.specs.Resolved.{named_at}
 use Rattle.findings.proofs.LawsRecord.{pairs_listed, positionals_are, name_formed}
 use Rattle.findings.specs.Resolve.{Prepared}
 use Rattle.can_fill.specs.CanFill.{filling_in, written_in, FillReady}
-use Rattle.can_fill.specs.declared.CanFill.{CanFill}
-use Rattle.can_fill.specs.declared.CanFill.TheVariants.{Refused, Answer}
+use Rattle.std.specs.Prelude.{Result, Ok, Err}
+use Rattle.answers.proofs.LawsTold.{question_at, question_back}
+use Rattle.cells.specs.declared.question.Question.{Question}
 
 module _ (cells area : List ℕ) (h : Head) (read : h ≡ read_head cells) where
   written_are : map (λ p. (named_in area p).name.bytes) (read_call cells).named ≡ written_in area cells h
@@ -68,14 +69,14 @@ module _ (cells area spec_cells spec : List ℕ) where
 -- ---- one answer
 
 -- the answer read back: every number has one case
-abbrev answer_from : Filling → CanFill
-answer_from (refused_filling n d) = Refused n
-answer_from (answered b) = Answer b
+abbrev answer_from : Filling → Result Bool Question
+answer_from (refused_filling n d) = Err (question_at n)
+answer_from (answered b) = Ok b
 
-told_back : (r : CanFill) → answer_from (filling_in r) ≡ r
-told_back (Refused n) = refl
-told_back (Answer b) = refl
+told_back : (r : Result Bool Question) → answer_from (filling_in r) ≡ r
+told_back (Err q) = ap Err (question_back q)
+told_back (Ok b) = refl
 
 -- two answers that tell the same are the same
-pub filling_one : (r r' : CanFill) → filling_in r ≡ filling_in r' → r ≡ r'
+pub filling_one : (r r' : Result Bool Question) → filling_in r ≡ filling_in r' → r ≡ r'
 filling_one r r' e = sym (told_back r) ∙ ap answer_from e ∙ told_back r'

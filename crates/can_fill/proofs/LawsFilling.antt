@@ -12,6 +12,8 @@ use borrow.Author.Tests.{ltb-false, lt-ltb, le-ltb, eq-eqb, ne_eqb, eqb-true, eq
 use lib.Dec.{ltb, eqb}
 use lib.ListN.{length, get_or, set, length-set}
 use lib.Seq.{get_or-set_same, get_or-set_other}
+use Rattle.std.specs.Prelude.{Option, Some, None}
+use Rattle.std.specs.Prelude as std
 use Rattle.rules.specs.Listing.{all, tally, first_index, any_from}
 use Rattle.rules.specs.Value.{no_value}
 use Rattle.rules.specs.Parameters.{Parameter, positional, positional_count, is_required, has_args, has_kwargs, args_index, kwargs_index}
@@ -26,14 +28,10 @@ use Rattle.cells.specs.Listed.{listed}
 use Rattle.builder.specs.Spec.{index_of}
 use Rattle.builder.specs.Params.{parameter_of, parameter_at, parameters_in}
 use Rattle.builder.specs.declared.params.Parameters.{Parameters}
-use Rattle.builder.specs.declared.spec.Index.{Index}
-use Rattle.builder.specs.declared.spec.Index.TheVariants as index
 use Rattle.cells.proofs.LawsListed.{length_listed, tally_snoc, get_d_listed}
-use Rattle.lookup.specs.declared.Finding.{Finding}
-use Rattle.lookup.specs.declared.Finding.TheVariants.{At, Unknown}
 use Rattle.lookup.specs.Lookup.{finding_of}
 use Rattle.findings.specs.Found.{first_missing}
-use Rattle.can_fill.specs.CanFill.{is_there, free_for, named_after}
+use Rattle.can_fill.specs.CanFill.{free_for, named_after}
 use Rattle.findings.proofs.LawsAsked.{is_some, any_first}
 use Rattle.findings.proofs.LawsNames.{any_parameter}
 use Rattle.findings.proofs.LawsKinds.{required_code, args_found, kwargs_found}
@@ -105,8 +103,8 @@ counted_none qs next named few slots zeros =
 
 module _ (qs : List Parameter) (next : ℕ) (apart : names_apart [] qs ≡ true) (few : length qs ≤ 64) (M : List (List ℕ)) (named : List ℕ) (so_far : Counted qs next M named) (b : List ℕ) where
   -- a name that can fill what is found for it is one more
-  pub counted_more : (f : Finding) → finding_of f ≡ find qs b → free_for f (has_kwargs qs) next named ≡ true → Counted qs next (M ++ (b ∷ [])) (named_after f named)
-  counted_more (At i) e free =
+  pub counted_more : (f : Option ℕ) → finding_of f ≡ find qs b → free_for f (has_kwargs qs) next named ≡ true → Counted qs next (M ++ (b ∷ [])) (named_after f named)
+  counted_more (Some i) e free =
       record {
         counts = λ k d h. tally_snoc (λ n. names n (get_or qs k d)) M b ∙ ap₂ (λ c n. cond c (n + 1) n) (named_at_lem qs [] [] apart b (at i) (sym e) k d h) (so_far.counts k d h) ∙ slot k (eqb i k) refl;
         once = λ k h. open_slot k h (eqb i k) refl;
@@ -141,7 +139,7 @@ module _ (qs : List Parameter) (next : ℕ) (apart : names_apart [] qs ≡ true)
           let none_by_position : ltb k next ≡ false = le-ltb k next (omega (arith, past)) in
           rw none_by_position (omega (arith, slot k true same, ap (λ n. get_or named n 0) here, empty))
       open_slot k h false other = rw (sym (slot k false other)) (so_far.once k h)
-  counted_more Unknown e free =
+  counted_more None e free =
       record {
         counts = λ k d h. tally_snoc (λ n. names n (get_or qs k d)) M b ∙ ap (λ c. cond c (tally (λ n. names n (get_or qs k d)) M + 1) (tally (λ n. names n (get_or qs k d)) M)) (named_at_lem qs [] [] apart b unknown (sym e) k d h) ∙ so_far.counts k d h;
         once = so_far.once;
@@ -150,10 +148,10 @@ module _ (qs : List Parameter) (next : ℕ) (apart : names_apart [] qs ≡ true)
       }
 
   -- a name that cannot is why the whole call cannot
-  pub counted_stop : (p : ℕ) → positional_first qs ≡ true → next ≡ min p (positional_count qs) → (f : Finding) → finding_of f ≡ find qs b → free_for f (has_kwargs qs) next named ≡ false → (rest : List (List ℕ))
+  pub counted_stop : (p : ℕ) → positional_first qs ≡ true → next ≡ min p (positional_count qs) → (f : Option ℕ) → finding_of f ≡ find qs b → free_for f (has_kwargs qs) next named ≡ false → (rest : List (List ℕ))
       → (not (filled_twice qs p (M ++ (b ∷ rest))) && (all (known qs) (M ++ (b ∷ rest)) || has_kwargs qs)) ≡ false
   unfolding filled_twice
-  counted_stop p first upto (At i) e taken rest =
+  counted_stop p first upto (Some i) e taken rest =
       and_no_left (not (any_from (λ k q. ltb 1 (fillings p (M ++ (b ∷ rest)) k q)) 0 qs)) (all (known qs) (M ++ (b ∷ rest)) || has_kwargs qs)
       (ap not (any_from_hit (λ k q. ltb 1 (fillings p (M ++ (b ∷ rest)) k q)) 0 qs i any_parameter within (ap (λ n. ltb 1 (fillings p (M ++ (b ∷ rest)) n (get_or qs i any_parameter))) (zero-add i) ∙ lt-ltb 1 (fillings p (M ++ (b ∷ rest)) i (get_or qs i any_parameter)) twice)))
     where
@@ -176,7 +174,7 @@ module _ (qs : List Parameter) (next : ℕ) (apart : names_apart [] qs ≡ true)
 
       twice : 1 < fillings p (M ++ (b ∷ rest)) i (get_or qs i any_parameter)
       twice = rw (fillings_at qs p next first upto (M ++ (b ∷ rest)) i any_parameter within) (omega (arith, more, filled (ltb i next) (eqb (get_or named i 0) 1) refl refl taken))
-  counted_stop p first upto Unknown e taken rest =
+  counted_stop p first upto None e taken rest =
       and_no_right (not (any_from (λ k q. ltb 1 (fillings p (M ++ (b ∷ rest)) k q)) 0 qs)) (all (known qs) (M ++ (b ∷ rest)) || has_kwargs qs)
       (or_neither (all (known qs) (M ++ (b ∷ rest))) (has_kwargs qs)
       (all_after (known qs) M (b ∷ rest) ∙ ap (λ c. all (known qs) M && (c && all (known qs) rest)) (known_at qs [] [] b unknown (sym e)) ∙ and_no_right (all (known qs) M) false refl)
@@ -225,12 +223,12 @@ required_at area ps k d h =
 
 -- ---- the indices of *args and **kwargs
 
-pub there_is : (i : Index) → is_there i ≡ is_some (index_of i)
-there_is (index.At i) = refl
-there_is index.Absent = refl
+pub there_is : (i : Option ℕ) → std.is_some i ≡ is_some (index_of i)
+there_is (Some i) = refl
+there_is None = refl
 
-pub args_there : (i : Index) (qs : List Parameter) → index_of i ≡ args_index qs → is_there i ≡ has_args qs
+pub args_there : (i : Option ℕ) (qs : List Parameter) → index_of i ≡ args_index qs → std.is_some i ≡ has_args qs
 args_there i qs e = there_is i ∙ ap is_some e ∙ sym (args_found qs)
 
-pub kwargs_there : (i : Index) (qs : List Parameter) → index_of i ≡ kwargs_index qs → is_there i ≡ has_kwargs qs
+pub kwargs_there : (i : Option ℕ) (qs : List Parameter) → index_of i ≡ kwargs_index qs → std.is_some i ≡ has_kwargs qs
 kwargs_there i qs e = there_is i ∙ ap is_some e ∙ sym (kwargs_found qs)

@@ -1,6 +1,6 @@
 -- Can-fill as the code answers it (01, collector and can-fill), and what its inner functions need and promise: which names are written, what
 -- one name fills, and what all of them do.
-use Rattle.std.specs.Prelude.{◌≡◌, Bool, true, false, not, ◌&&◌, ◌||◌, List, ℕ, ◌+◌, ◌*◌, min, ◌<◌, ltb, eqb, length, get_or, set}
+use Rattle.std.specs.Prelude.{◌≡◌, Bool, true, not, ◌&&◌, ◌||◌, List, ℕ, ◌+◌, ◌*◌, min, ◌<◌, ltb, eqb, length, get_or, set, Option, Some, None, Result, Ok, Err}
 use Rattle.rules.specs.Listing.{all, tally}
 use Rattle.rules.specs.Text.{inside}
 use Rattle.rules.specs.Answer.{none}
@@ -8,28 +8,20 @@ use Rattle.rules.specs.CallRecord.{Head}
 use Rattle.rules.specs.Parameters.{Parameter, positional_count, has_kwargs}
 use Rattle.rules.specs.Lookup.{names, known}
 use Rattle.rules.specs.CanFill.{Filling, refused_filling, answered, filled_twice}
+use Rattle.cells.specs.Question.{number_of}
+use Rattle.cells.specs.declared.question.Question.{Question}
 use Rattle.cells.specs.Record.{pair_at}
 use Rattle.cells.specs.Listed.{listed}
 use Rattle.builder.specs.Params.{parameters_in}
-use Rattle.builder.specs.declared.spec.Index.{Index}
-use Rattle.builder.specs.declared.spec.Index.TheVariants as index
 use Rattle.builder.specs.declared.spec.ParametersSpec.{ParametersSpec}
 use Rattle.calls.specs.Head.{Few, named_from}
-use Rattle.lookup.specs.declared.Finding.{Finding}
-use Rattle.lookup.specs.declared.Finding.TheVariants.{At, Unknown}
 use Rattle.findings.specs.Resolved.{named_at}
 use Rattle.findings.specs.Resolve.{Prepared}
-use Rattle.can_fill.specs.declared.CanFill.{CanFill}
-use Rattle.can_fill.specs.declared.CanFill.TheVariants.{Refused, Answer}
 
 -- 01's outcome for the answer
-abbrev pub filling_in : CanFill → Filling
-filling_in (Refused n) = refused_filling n none
-filling_in (Answer b) = answered b
-
-abbrev pub is_there : Index → Bool
-is_there (index.At i) = true
-is_there index.Absent = false
+abbrev pub filling_in : Result Bool Question → Filling
+filling_in (Ok b) = answered b
+filling_in (Err q) = refused_filling (number_of q) none
 
 -- the bytes of `count` names from name k on, and of all the written names of a call
 abbrev pub bytes_from : List ℕ → List ℕ → ℕ → ℕ → ℕ → List (List ℕ)
@@ -41,13 +33,13 @@ written_in area cells h = bytes_from area cells (named_from h) 0 h.n
 -- ---- one name
 
 -- may a name fill what is found for it? A slot is free where neither a position nor a name fills it; what is not found needs **kwargs
-abbrev pub free_for : Finding → Bool → ℕ → List ℕ → Bool
-free_for (At i) kwargs next named = not (ltb i next) && not (eqb (get_or named i 0) 1)
-free_for Unknown kwargs next named = kwargs
+abbrev pub free_for : Option ℕ → Bool → ℕ → List ℕ → Bool
+free_for (Some i) kwargs next named = not (ltb i next) && not (eqb (get_or named i 0) 1)
+free_for None kwargs next named = kwargs
 
-abbrev pub named_after : Finding → List ℕ → List ℕ
-named_after (At i) named = set named i 1
-named_after Unknown named = named
+abbrev pub named_after : Option ℕ → List ℕ → List ℕ
+named_after (Some i) named = set named i 1
+named_after None named = named
 
 -- ---- all the names
 

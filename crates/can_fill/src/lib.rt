@@ -7,75 +7,52 @@ ghost use Rattle.rules.specs.CanFill.{can_fill, fillable};
 ghost use Rattle.builder.specs.Params.{parameters_in};
 ghost use Rattle.calls.specs.Head.{head_of};
 ghost use Rattle.findings.specs.Resolve.{Below};
-ghost use Rattle.can_fill.specs.CanFill.{filling_in, is_there, written_in, free_for, named_after, FillReady, NamesReady, NamesFilled};
+ghost use Rattle.can_fill.specs.CanFill.{filling_in, written_in, free_for, named_after, FillReady, NamesReady, NamesFilled};
 
 use builder::build;
-use builder::spec::{Index, ParametersSpec};
+use builder::spec::ParametersSpec;
 use calls::ask_form;
 use calls::head::{Head, PAIR, named_from, read_head};
-use cells::answer::Answer;
-use findings::found::{first_missing, least};
+use cells::question::Question;
+use findings::found::first_missing;
 use findings::resolve::found_at;
-use lookup::Finding;
 
-// Refused by one of questions 1 to 11, or yes or no.
-#[derive(Drop)]
-pub enum CanFill {
-    Refused(u64),
-    Answer(bool),
-}
-
-// The records as they are lent, of any cells and bytes: 1 to 7 are put to the list, then 9 to 11 to the call.
+// The records as they are lent, of any cells and bytes: 1 to 7 are put to the list, then 9 to 11 to the call; yes or no where none refuses.
 pub fn can_fill_with_args(
     spec_cells: &[u64],
     spec: &[u8],
     call_cells: &[u64],
     area: &[u8],
-) -> CanFill
+) -> Result<bool, Question>
     ensures { filling_in result ≡ fillable 64 64 spec_cells.now spec.now call_cells.now area.now }
 {
-    let built = build(spec_cells, spec);
-    let listed = built.answer;
-    if let Answer::Refused(question) = listed {
-        return CanFill::Refused(question);
-    }
-    let form = ask_form(call_cells, area);
-    if let Answer::Refused(question) = form {
-        return CanFill::Refused(question);
-    }
-    let list = built.list;
+    let list = build(spec_cells, spec)?;
+    ask_form(call_cells, area)?;
     let h = read_head(call_cells);
-    CanFill::Answer(can_fill(list, spec, call_cells, area, h))
+    Ok(can_fill(&list, spec, call_cells, area, h))
 }
 
 // A call that passes 9 to 11 against a list that passes 1 to 7: surplus positionals need *args, each name a slot of its own, and a required
 // slot a position or a name.
-fn can_fill(list: ParametersSpec, spec: &[u8], cells: &[u64], area: &[u8], h: Head) -> bool
-    requires { FillReady spec.now list cells.now area.now (head_of h) }
-    ensures { result ≡ can_fill (parameters_in spec.now list.params) h.p (written_in area.now cells.now (head_of h)) }
+fn can_fill(list: &ParametersSpec, spec: &[u8], cells: &[u64], area: &[u8], h: Head) -> bool
+    requires { FillReady spec.now list.now cells.now area.now (head_of h) }
+    ensures { result ≡ can_fill (parameters_in spec.now list.now.params) h.p (written_in area.now cells.now (head_of h)) }
 {
     let indices = list.indices;
-    let args = indices.args;
-    if indices.num_positional < h.p {
-        if !is_there(args) {
-            return false;
-        }
-    }
-    let next = least(h.p, indices.num_positional);
-    let mut named: [usize; 64] = [0; 64];
-    if !fill_names(list, spec, cells, area, h, next, &mut named) {
+    if indices.num_positional < h.p && indices.args.is_none() {
         return false;
     }
-    let codes = list.params.codes;
-    let missing = first_missing(&codes, &named, next, list.params.len);
-    !is_there(missing)
+    let next = h.p.min(indices.num_positional);
+    let mut named: [usize; 64] = [0; 64];
+    fill_names(list, spec, cells, area, h, next, &mut named)
+        && first_missing(&list.params, &named, next).is_none()
 }
 
 // Each written name fills its slot, in their order, up to the first that cannot. `named` is 1 where a name fills a slot: a slot below
 // `next` is filled by position, and `named` stays 0 there. Names mostly come in the list's order, so each is looked for first as far behind
 // `next` as there are names before it.
 fn fill_names(
-    list: ParametersSpec,
+    list: &ParametersSpec,
     spec: &[u8],
     cells: &[u64],
     area: &[u8],
@@ -83,62 +60,35 @@ fn fill_names(
     next: usize,
     named: &mut [usize; 64],
 ) -> bool
-    requires { NamesReady spec.now list cells.now area.now (head_of h) next named.old }
-    ensures { NamesFilled (parameters_in spec.now list.params) h.p (written_in area.now cells.now (head_of h)) named.new result }
+    requires { NamesReady spec.now list.now cells.now area.now (head_of h) next named.old }
+    ensures { NamesFilled (parameters_in spec.now list.now.params) h.p (written_in area.now cells.now (head_of h)) named.new result }
 {
-    let params = list.params;
+    let params = &list.params;
     let from = named_from(h);
-    let indices = list.indices;
-    let at = indices.kwargs;
-    let kwargs = is_there(at);
-    let mut k = 0;
-    while k < h.n {
-        let found = found_at(
-            spec,
-            &params.codes,
-            &params.styles,
-            &params.names,
-            params.len,
-            cells,
-            area,
-            from + PAIR * k,
-            next + k,
-        );
+    let kwargs = list.indices.kwargs.is_some();
+    for k in 0..h.n {
+        let found = found_at(params, spec, cells, area, from + PAIR * k, next + k);
         if !fill(found, kwargs, next, named) {
             return false;
         }
-        k += 1;
     }
     true
 }
 
 // One name fills the slot that is found, unless that is filled already; one that is not found needs **kwargs, and may come again.
-fn fill(found: Finding, kwargs: bool, next: usize, named: &mut [usize; 64]) -> bool
+fn fill(found: Option<usize>, kwargs: bool, next: usize, named: &mut [usize; 64]) -> bool
     requires { Below 64 found }
     ensures free { result ≡ free_for found kwargs next named.old }
     ensures named { result ≡ true → named.new ≡ named_after found named.old }
 {
     match found {
-        Finding::At(i) => {
-            if i < next {
-                return false;
-            }
-            if named[i] == 1 {
+        Some(i) => {
+            if i < next || named[i] == 1 {
                 return false;
             }
             named[i] = 1;
             true
         }
-        Finding::Unknown => kwargs,
-    }
-}
-
-// Is there a parameter of the kind that was looked for?
-fn is_there(index: Index) -> bool
-    ensures { result ≡ is_there index }
-{
-    match index {
-        Index::At(_) => true,
-        Index::Absent => false,
+        None => kwargs,
     }
 }

@@ -7,6 +7,9 @@ use Prim.Native.Nat.{ℕ, zero, suc, ◌+◌, ◌*◌, ◌^◌, ◌<◌, ◌≤�
 use native.Mathlib.Numerals.{add-one}
 use native.Mathlib.Omega.{arith}
 use lib.ListN.{length, drop, take, get_or, length-take, drop_of_length-le}
+use lib.Dec.{leb}
+use mathlib.Core.Bool.{Bool, true, false}
+use borrow.Author.Tests.{leb-true, leb-false}
 use lib.Seq.{drop-cons, get_or-take}
 use Rattle.cells.specs.Text.{key_from, key_of}
 
@@ -55,3 +58,19 @@ module _ (bytes : List ℕ) (key i : ℕ) (k : KeySoFar bytes key i) where
       short : (8 ≤ i) ⊎ (length bytes ≤ i) → min 8 (length bytes) ≤ i
       short (inl a) = omega arith
       short (inr a) = omega arith
+
+-- ---- the first eight bytes, as a part of the text
+
+module _ (bytes : List ℕ) (n i : ℕ) (e : n ≡ min (length bytes) 8) where
+  pub first_inside : i < length (take n bytes) → (i < 8) × (i < length bytes)
+  first_inside h = let l = length-take n bytes in (omega (arith, l), omega (arith, l))
+
+  pub first_byte : i < length (take n bytes) → get_or (take n bytes) i 0 ≡ get_or bytes i 0
+  first_byte h = get_or-take n bytes i 0 (let l = length-take n bytes in omega (arith, l))
+
+  pub first_end : length (take n bytes) ≤ i → (8 ≤ i) ⊎ (length bytes ≤ i)
+  first_end h = let l = length-take n bytes in go (leb 8 i) refl
+    where
+      go : (b : Bool) → leb 8 i ≡ b → (8 ≤ i) ⊎ (length bytes ≤ i)
+      go true t = inl (leb-true 8 i t)
+      go false t = inr (let l = length-take n bytes in let f = leb-false 8 i t in omega (arith, l, f))

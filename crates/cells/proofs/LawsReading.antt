@@ -1,6 +1,7 @@
 -- Reading a value, a key and a name out of two cells (01, cells, texts and records), one by way of another, as the code goes:
 -- a text that was read, as a value; a value on a board, by its kind; a key, by the value that was read; a name, by the key. What each of them
 -- is by itself is said in specs/Value.antt, and that cells and values go over into each other in LawsValue.antt. Assumes nothing.
+use Rattle.std.specs.Prelude.{Option, Some, None}
 use mathlib.Core.Path.{◌≡◌, refl, ap, ◌∙◌, subst⁻¹}
 use mathlib.Core.Bool.{Bool, true, false, cond, ◌&&◌, ◌||◌}
 use mathlib.Core.List.{List}
@@ -16,23 +17,19 @@ use Rattle.rules.specs.Value.{well_formed, well_formed_argument, well_formed_nam
 use Rattle.cells.specs.Text.{text_of, read_text}
 use Rattle.cells.specs.Value.{value, real_of, value_as, read_as, read_default, read_argument, well_formed_slot, read_slot, read_name, read_key}
 use Rattle.cells.specs.declared.text.Text.{Text}
-use Rattle.cells.specs.declared.text.ReadText.{ReadText}
-use Rattle.cells.specs.declared.text.ReadText.TheVariants as text
 use Rattle.cells.specs.declared.value.Value.{Value}
 use Rattle.cells.specs.declared.value.Value.TheVariants.{Nothing, Flag, Whole, Real, Nan, SpecText, CallText, Handle}
-use Rattle.cells.specs.declared.value.ReadValue.{ReadValue}
-use Rattle.cells.specs.declared.value.ReadValue.TheVariants.{Is, Not}
-use Rattle.cells.specs.declared.value.ReadKey.{ReadKey}
-use Rattle.cells.specs.declared.value.ReadKey.TheVariants as key
+use Rattle.cells.specs.declared.value.Key.{Key}
+use Rattle.cells.specs.declared.value.Key.TheVariants.{Word, Number}
 
 -- ---- a text that was read, as the value that it is
 
 -- `make` is the case of a value that holds texts of the area
-abbrev pub as_value : (Text → Value) → ReadText → ReadValue
-as_value make (text.Is t) = Is (make t)
-as_value make text.Not = Not
+abbrev pub as_value : (Text → Value) → Option Text → Option Value
+as_value make (Some t) = Some (make t)
+as_value make None = None
 
-text_or_not : (make : Text → Value) (t : Text) (b : Bool) → cond (b || false) (Is (make t)) Not ≡ as_value make (cond b (text.Is t) text.Not)
+text_or_not : (make : Text → Value) (t : Text) (b : Bool) → cond (b || false) (Some (make t)) None ≡ as_value make (cond b (Some t) None)
 text_or_not make t true = refl
 text_or_not make t false = refl
 
@@ -56,19 +53,19 @@ slot_argument spec call kind payload e = rw (ne_eqb kind 5 e)
 
 -- ---- a key, by the value that was read, and a name, by the key
 
-abbrev pub key_of : ReadValue → ReadKey
-key_of (Is Nothing) = key.Not
-key_of (Is (Flag b)) = key.Not
-key_of (Is (Whole z)) = key.Number z
-key_of (Is (Real x)) = key.Not
-key_of (Is (Nan bits)) = key.Not
-key_of (Is (SpecText t)) = key.Not
-key_of (Is (CallText t)) = key.Word t
-key_of (Is (Handle h)) = key.Not
-key_of Not = key.Not
+abbrev pub key_of : Option Value → Option Key
+key_of (Some Nothing) = None
+key_of (Some (Flag b)) = None
+key_of (Some (Whole z)) = Some (Number z)
+key_of (Some (Real x)) = None
+key_of (Some (Nan bits)) = None
+key_of (Some (SpecText t)) = None
+key_of (Some (CallText t)) = Some (Word t)
+key_of (Some (Handle h)) = None
+key_of None = None
 
 -- no value of another kind is a key
-not_key : (kind payload : ℕ) → (kind ≡ 3 → ⊥) → (kind ≡ 6 → ⊥) → key_of (Is (value_as kind payload)) ≡ key.Not
+not_key : (kind payload : ℕ) → (kind ≡ 3 → ⊥) → (kind ≡ 6 → ⊥) → key_of (Some (value_as kind payload)) ≡ None
 unfolding real_of
 not_key zero payload m n = refl
 not_key (suc zero) payload m n = refl
@@ -76,7 +73,7 @@ not_key (suc (suc zero)) payload m n = refl
 not_key (suc (suc (suc zero))) payload m n = absurd (m refl)
 not_key (suc (suc (suc (suc zero)))) payload m n = real (nan_bits binary64 payload)
   where
-    real : (b : Bool) → key_of (Is (cond b (Nan payload) (Real (of_bits binary64 payload)))) ≡ key.Not
+    real : (b : Bool) → key_of (Some (cond b (Nan payload) (Real (of_bits binary64 payload)))) ≡ None
     real true = refl
     real false = refl
 not_key (suc (suc (suc (suc (suc zero))))) payload m n = refl
@@ -89,7 +86,7 @@ module _ (area : List ℕ) (payload : ℕ) where
   unfolding read_as read_argument well_formed_argument read_text read_key well_formed_key call_text
   key_text = ap key_of (text_read 6 (omega arith) (omega arith) area payload CallText refl) ∙ go (is_text 0 area payload)
     where
-      go : (b : Bool) → key_of (as_value CallText (cond b (text.Is (text_of payload)) text.Not)) ≡ cond b (key.Word (text_of payload)) key.Not
+      go : (b : Bool) → key_of (as_value CallText (cond b (Some (text_of payload)) None)) ≡ cond b (Some (Word (text_of payload))) None
       go true = refl
       go false = refl
 
@@ -101,7 +98,7 @@ module _ (area : List ℕ) (payload : ℕ) where
   unfolding read_argument read_key well_formed_key call_text
   key_other kind m n = rw (ne_eqb kind 3 m, ne_eqb kind 6 n) (go (well_formed_argument area (value kind payload)))
     where
-      go : (b : Bool) → key_of (cond b (Is (value_as kind payload)) Not) ≡ key.Not
+      go : (b : Bool) → key_of (cond b (Some (value_as kind payload)) None) ≡ None
       go true = not_key kind payload m n
       go false = refl
 
@@ -116,15 +113,15 @@ module _ (area : List ℕ) (payload : ℕ) where
       number true e = subst⁻¹ (λ (k : ℕ). key_of (read_argument area k payload) ≡ read_key area k payload) (eqb-true kind 3 e) key_number
       number false e = word (eqb kind 6) refl (eqb-false kind 3 e)
 
-abbrev pub name_of : ReadKey → ReadText
-name_of (key.Word t) = cond (eqb t.len 0) text.Not (text.Is t)
-name_of (key.Number z) = text.Not
-name_of key.Not = text.Not
+abbrev pub name_of : Option Key → Option Text
+name_of (Some (Word t)) = cond (eqb t.len 0) None (Some t)
+name_of (Some (Number z)) = None
+name_of None = None
 
 -- of a text of n bytes: it is a name if it is a key and n is not 0; `in_area_lem` and `short` are the other tests of a text
 name_size : (in_area_lem short : Bool) (start n : ℕ)
-    → name_of (cond (in_area_lem && leb 0 n && short) (key.Word (record { start = start; len = n })) key.Not)
-    ≡ cond (in_area_lem && leb 1 n && short) (text.Is (record { start = start; len = n })) text.Not
+    → name_of (cond (in_area_lem && leb 0 n && short) (Some (Word (record { start = start; len = n }))) None)
+    ≡ cond (in_area_lem && leb 1 n && short) (Some (record { start = start; len = n })) None
 name_size false short start n = refl
 name_size true false start zero = refl
 name_size true true start zero = refl
@@ -140,7 +137,7 @@ module _ (area : List ℕ) (payload : ℕ) where
   unfolding read_key well_formed_key call_text read_name well_formed_name
   name_of_key kind = word (eqb kind 6) refl
     where
-      number : (b : Bool) → name_of (cond (b || false) (key.Number (to_z w64 payload)) key.Not) ≡ text.Not
+      number : (b : Bool) → name_of (cond (b || false) (Some (Number (to_z w64 payload))) None) ≡ None
       number true = refl
       number false = refl
 

@@ -1,5 +1,5 @@
 -- What the code's types mean in the terms of `rules`, and what its functions answer.
-pub mod Answer
+pub mod Question
 pub mod Text
 pub mod Value
 pub mod Record

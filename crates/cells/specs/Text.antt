@@ -1,18 +1,16 @@
 -- A text of the code (01, texts), what reading one answers, and the key of a text.
-use Rattle.std.specs.Prelude.{◌≡◌, true, cond, List, [], ◌∷◌, ℕ, ◌+◌, ◌-◌, ◌*◌, ◌<◌, ◌≤◌, length, take, drop, get_or}
+use Rattle.std.specs.Prelude.{Option, Some, None, ◌≡◌, true, cond, List, [], ◌∷◌, ℕ, ◌+◌, ◌-◌, ◌*◌, ◌<◌, ◌≤◌, length, take, drop, get_or}
 use Rattle.std.specs.Borrow.{Bor}
 use Rattle.rules.specs.Text.{start_of, size_of, is_text, inside, bytes_at, same_bytes}
 use Rattle.cells.specs.declared.text.Text.{Text}
-use Rattle.cells.specs.declared.text.ReadText.{ReadText}
-use Rattle.cells.specs.declared.text.ReadText.TheVariants.{Is, Not}
 
 -- the text that a payload names
 unfoldable pub text_of : ℕ → Text
 text_of payload = record { start = start_of payload; len = size_of payload }
 
 -- a text of `least` to 64 bytes inside the area, or no
-unfoldable pub read_text : ℕ → List ℕ → ℕ → ReadText
-read_text least area payload = cond (is_text least area payload) (Is (text_of payload)) Not
+unfoldable pub read_text : ℕ → List ℕ → ℕ → Option Text
+read_text least area payload = cond (is_text least area payload) (Some (text_of payload)) None
 
 -- the bytes of a payload that lies inside the area, none of any other
 unfoldable pub part_at : List ℕ → ℕ → List ℕ

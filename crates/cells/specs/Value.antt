@@ -1,6 +1,6 @@
 -- A value of the code and its two cells (01, cells, texts and records; the form that 01 asks for, an enum with a case for each kind), and
 -- what reading the two cells answers. Which cells are well formed is said in `rules`.
-use Rattle.std.specs.Prelude.{Bool, cond, List, ℕ, zero, suc, eqb}
+use Rattle.std.specs.Prelude.{Option, Some, None, Bool, cond, List, ℕ, zero, suc, eqb}
 use Rattle.std.specs.Float.{binary64}
 use Rattle.std.specs.Float.Ieee.{nan_bits, to_bits, of_bits}
 use Rattle.std.specs.Int.{w64}
@@ -8,15 +8,12 @@ use mir.Val.{bool_byte, to_z, of_z}
 use Rattle.rules.specs.Text.{payload_of}
 use Rattle.rules.specs.Value as rules
 use Rattle.cells.specs.Text.{text_of}
-use Rattle.cells.specs.declared.text.ReadText.{ReadText}
-use Rattle.cells.specs.declared.text.ReadText.TheVariants as text
+use Rattle.cells.specs.declared.text.Text.{Text}
 use Rattle.cells.specs.declared.value.Value.{Value}
 use Rattle.cells.specs.declared.value.Value.TheVariants.{Nothing, Flag, Whole, Real, Nan, SpecText, CallText, Handle}
 use Rattle.cells.specs.declared.value.Pair.{Pair}
-use Rattle.cells.specs.declared.value.ReadValue.{ReadValue}
-use Rattle.cells.specs.declared.value.ReadValue.TheVariants.{Is, Not}
-use Rattle.cells.specs.declared.value.ReadKey.{ReadKey}
-use Rattle.cells.specs.declared.value.ReadKey.TheVariants as key
+use Rattle.cells.specs.declared.value.Key.{Key}
+use Rattle.cells.specs.declared.value.Key.TheVariants.{Word, Number}
 
 -- a kind cell and a payload cell, as the code has them and as `rules` has them
 abbrev pub pair : ℕ → ℕ → Pair
@@ -60,35 +57,35 @@ unfoldable pub value_of : rules.Value → Value
 value_of v = value_as v.kind v.payload
 
 -- what reading answers where `text` is the kind of text that is used: a value if the two cells are well formed, else no
-unfoldable pub read_as : ℕ → List ℕ → ℕ → ℕ → ReadValue
+unfoldable pub read_as : ℕ → List ℕ → ℕ → ℕ → Option Value
 read_as text area kind payload =
-    cond (rules.well_formed text area (value kind payload)) (Is (value_as kind payload)) Not
+    cond (rules.well_formed text area (value kind payload)) (Some (value_as kind payload)) None
 
-unfoldable pub read_default : List ℕ → ℕ → ℕ → ReadValue
+unfoldable pub read_default : List ℕ → ℕ → ℕ → Option Value
 read_default area kind payload =
-    cond (rules.well_formed_default area (value kind payload)) (Is (value_as kind payload)) Not
+    cond (rules.well_formed_default area (value kind payload)) (Some (value_as kind payload)) None
 
-unfoldable pub read_argument : List ℕ → ℕ → ℕ → ReadValue
+unfoldable pub read_argument : List ℕ → ℕ → ℕ → Option Value
 read_argument area kind payload =
-    cond (rules.well_formed_argument area (value kind payload)) (Is (value_as kind payload)) Not
+    cond (rules.well_formed_argument area (value kind payload)) (Some (value_as kind payload)) None
 
 -- on a board a text of kind 5 stands in the spec area, as a default has it; anything else stands there as an argument has it
 unfoldable pub well_formed_slot : List ℕ → List ℕ → rules.Value → Bool
 well_formed_slot spec call v =
     cond (eqb v.kind rules.spec_text) (rules.well_formed_default spec v) (rules.well_formed_argument call v)
 
-unfoldable pub read_slot : List ℕ → List ℕ → ℕ → ℕ → ReadValue
+unfoldable pub read_slot : List ℕ → List ℕ → ℕ → ℕ → Option Value
 read_slot spec call kind payload =
-    cond (well_formed_slot spec call (value kind payload)) (Is (value_as kind payload)) Not
+    cond (well_formed_slot spec call (value kind payload)) (Some (value_as kind payload)) None
 
 -- a name in a call
-unfoldable pub read_name : List ℕ → ℕ → ℕ → ReadText
+unfoldable pub read_name : List ℕ → ℕ → ℕ → Option Text
 read_name area kind payload =
-    cond (rules.well_formed_name area (value kind payload)) (text.Is (text_of payload)) text.Not
+    cond (rules.well_formed_name area (value kind payload)) (Some (text_of payload)) None
 
 -- a key: a text or a whole number
-unfoldable pub read_key : List ℕ → ℕ → ℕ → ReadKey
+unfoldable pub read_key : List ℕ → ℕ → ℕ → Option Key
 read_key area kind payload =
     cond (rules.well_formed_key area (value kind payload))
-    (cond (eqb kind rules.call_text) (key.Word (text_of payload)) (key.Number (to_z w64 payload)))
-    key.Not
+    (Some (cond (eqb kind rules.call_text) (Word (text_of payload)) (Number (to_z w64 payload))))
+    None

@@ -12,10 +12,8 @@ fn word_at(area: &[u8], at: usize) -> u64
     ensures { IsWord (drop at area.now) result }
 {
     let mut word: u64 = 0;
-    let mut i = 0;
-    while i < 8 {
+    for i in 0..8 {
         word = word * 256 + (area[at + i] as u64);
-        i += 1;
     }
     word
 }

@@ -2,9 +2,9 @@
 // record, and output into lent cells.
 #![tactic(auto)]
 
-pub mod answer;
 pub mod key;
 pub mod out;
+pub mod question;
 pub mod record;
 pub mod text;
 pub mod value;

@@ -4,15 +4,12 @@ ghost use Rattle.std.specs.Prelude.{◌≡◌, get_or};
 ghost use Rattle.cells.specs.Value.{pair_of};
 ghost use Rattle.cells.specs.Record.{pair_at, key_at};
 
-use crate::value::{Pair, ReadKey, read_key};
+use crate::value::{Key, Pair, read_key};
 
 pub fn cell(cells: &[u64], at: usize) -> u64
     ensures { result ≡ get_or cells.now at 0 }
 {
-    if at < cells.len() {
-        return cells[at];
-    }
-    0
+    cells.get(at).copied().unwrap_or(0)
 }
 
 // The two cells from `at` on.
@@ -25,7 +22,7 @@ pub fn pair_at(cells: &[u64], at: usize) -> Pair
     Pair::new(0, 0)
 }
 
-pub fn key_at(area: &[u8], cells: &[u64], at: usize) -> ReadKey
+pub fn key_at(area: &[u8], cells: &[u64], at: usize) -> Option<Key>
     ensures { result ≡ key_at area.now cells.now at }
 {
     let pair = pair_at(cells, at);

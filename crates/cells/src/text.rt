@@ -4,16 +4,10 @@ ghost use Rattle.rules.specs.Text.{payload_of, same_bytes};
 ghost use Rattle.cells.specs.Text.{read_text, part_at, place_at, key_of};
 
 // Where a text starts in its area, and how many bytes it has: the two halves of a payload. Both always fit a payload.
-#[derive(Clone, Copy)]
+#[derive(Clone, Copy, Debug, PartialEq, Eq)]
 pub struct Text {
     pub start: u16,
     pub len: u8,
-}
-
-#[derive(Drop)]
-pub enum ReadText {
-    Is(Text),
-    Not,
 }
 
 impl Text {
@@ -25,24 +19,24 @@ impl Text {
 }
 
 // The text that a payload names, if it has `least` to 64 bytes and lies inside the area.
-pub fn read_text(area: &[u8], least: u64, payload: u64) -> ReadText
+pub fn read_text(area: &[u8], least: u64, payload: u64) -> Option<Text>
     ensures { result ≡ read_text least area.now payload }
 {
     let start = payload / 256;
     let len = payload % 256;
     if 65535 < start {
-        return ReadText::Not;
+        return None;
     }
     if (area.len() as u64) < start + len {
-        return ReadText::Not;
+        return None;
     }
     if len < least {
-        return ReadText::Not;
+        return None;
     }
     if 64 < len {
-        return ReadText::Not;
+        return None;
     }
-    ReadText::Is(Text {
+    Some(Text {
         start: start as u16,
         len: len as u8,
     })
@@ -69,17 +63,7 @@ pub fn part<'a>(area: &'a [u8], payload: u64) -> &'a [u8]
 pub fn same(a: &[u8], b: &[u8]) -> bool
     ensures { result ≡ same_bytes a.now b.now }
 {
-    if a.len() != b.len() {
-        return false;
-    }
-    let mut i = 0;
-    while i < a.len() {
-        if a[i] != b[i] {
-            return false;
-        }
-        i += 1;
-    }
-    true
+    a == b
 }
 
 // Are the texts of two payloads equal, each in its area?
@@ -94,13 +78,9 @@ pub fn key_of(bytes: &[u8]) -> u64
     ensures { result ≡ key_of bytes.now }
 {
     let mut key: u64 = 0;
-    let mut i = 0;
-    while i < bytes.len() {
-        if i == 8 {
-            return key;
-        }
-        key = key * 256 + (bytes[i] as u64);
-        i += 1;
+    let first = &bytes[..bytes.len().min(8)];
+    for byte in first {
+        key = key * 256 + (*byte as u64);
     }
     key
 }

@@ -7,7 +7,7 @@ ghost use Rattle.std.specs.Int.{w64};
 ghost use Rattle.std.proofs.Common.{to_z, of_z};
 ghost use Rattle.cells.specs.Value.{pair, cells_of, real_of, read_as, read_default, read_argument, read_slot, read_name, read_key};
 
-use crate::text::{ReadText, Text, read_text};
+use crate::text::{Text, read_text};
 
 #[derive(Clone, Copy)]
 pub enum Value {
@@ -30,17 +30,11 @@ pub struct Pair {
     pub payload: u64,
 }
 
-#[derive(Drop)]
-pub enum ReadValue {
-    Is(Value),
-    Not,
-}
-
-#[derive(Clone, Copy)]
-pub enum ReadKey {
+// What a key is: a text of the call area, or a whole number.
+#[derive(Clone, Copy, Debug, PartialEq, Eq)]
+pub enum Key {
     Word(Text),
     Number(i64),
-    Not,
 }
 
 impl Value {
@@ -74,21 +68,21 @@ const SPEC_TEXT: u64 = 5;
 const CALL_TEXT: u64 = 6;
 
 // A default: its texts lie in the spec area.
-pub fn read_default(area: &[u8], kind: u64, payload: u64) -> ReadValue
+pub fn read_default(area: &[u8], kind: u64, payload: u64) -> Option<Value>
     ensures { result ≡ read_default area.now kind payload }
 {
     read_as(SPEC_TEXT, area, kind, payload)
 }
 
 // A value of a call: its texts lie in the call area.
-pub fn read_argument(area: &[u8], kind: u64, payload: u64) -> ReadValue
+pub fn read_argument(area: &[u8], kind: u64, payload: u64) -> Option<Value>
     ensures { result ≡ read_argument area.now kind payload }
 {
     read_as(CALL_TEXT, area, kind, payload)
 }
 
 // A value on a board: a text of kind 5 is a default's, anything else is as in a call.
-pub fn read_slot(spec: &[u8], call: &[u8], kind: u64, payload: u64) -> ReadValue
+pub fn read_slot(spec: &[u8], call: &[u8], kind: u64, payload: u64) -> Option<Value>
     ensures { result ≡ read_slot spec.now call.now kind payload }
 {
     if kind == SPEC_TEXT {
@@ -98,71 +92,63 @@ pub fn read_slot(spec: &[u8], call: &[u8], kind: u64, payload: u64) -> ReadValue
 }
 
 // A value where `text` is the kind of text that is used. What is no text is the same wherever it stands.
-fn read_as(text: u64, area: &[u8], kind: u64, payload: u64) -> ReadValue
+fn read_as(text: u64, area: &[u8], kind: u64, payload: u64) -> Option<Value>
     requires { (5 ≤ text) × (text ≤ 6) }
     ensures { result ≡ read_as text area.now kind payload }
 {
     match kind {
         1 => {
             if payload == 0 {
-                return ReadValue::Is(Value::Nothing);
+                return Some(Value::Nothing);
             }
-            ReadValue::Not
+            None
         }
         2 => {
             if payload < 2 {
-                return ReadValue::Is(Value::Flag(payload == 1));
+                return Some(Value::Flag(payload == 1));
             }
-            ReadValue::Not
+            None
         }
-        3 => ReadValue::Is(Value::Whole(whole_of(payload))),
-        4 => ReadValue::Is(real_of(payload)),
+        3 => Some(Value::Whole(whole_of(payload))),
+        4 => Some(real_of(payload)),
         7 => {
             if payload < 0x1_0000_0000 {
-                return ReadValue::Is(Value::Handle(payload as u32));
+                return Some(Value::Handle(payload as u32));
             }
-            ReadValue::Not
+            None
         }
         _ => {
             if kind != text {
-                return ReadValue::Not;
+                return None;
             }
-            let ReadText::Is(t) = read_text(area, 0, payload) else {
-                return ReadValue::Not;
-            };
+            let t = read_text(area, 0, payload)?;
             if text == SPEC_TEXT {
-                return ReadValue::Is(Value::SpecText(t));
+                return Some(Value::SpecText(t));
             }
-            ReadValue::Is(Value::CallText(t))
+            Some(Value::CallText(t))
         }
     }
 }
 
 // A key: a text in the call area or a whole number.
-pub fn read_key(area: &[u8], kind: u64, payload: u64) -> ReadKey
+pub fn read_key(area: &[u8], kind: u64, payload: u64) -> Option<Key>
     ensures { result ≡ read_key area.now kind payload }
 {
-    let ReadValue::Is(v) = read_argument(area, kind, payload) else {
-        return ReadKey::Not;
-    };
-    match v {
-        Value::CallText(t) => ReadKey::Word(t),
-        Value::Whole(z) => ReadKey::Number(z),
-        _ => ReadKey::Not,
+    match read_argument(area, kind, payload)? {
+        Value::CallText(t) => Some(Key::Word(t)),
+        Value::Whole(z) => Some(Key::Number(z)),
+        _ => None,
     }
 }
 
 // A name: a key that is a text, and not an empty one.
-pub fn read_name(area: &[u8], kind: u64, payload: u64) -> ReadText
+pub fn read_name(area: &[u8], kind: u64, payload: u64) -> Option<Text>
     ensures { result ≡ read_name area.now kind payload }
 {
-    let ReadKey::Word(t) = read_key(area, kind, payload) else {
-        return ReadText::Not;
-    };
-    if t.len == 0 {
-        return ReadText::Not;
+    match read_key(area, kind, payload)? {
+        Key::Word(t) if t.len != 0 => Some(t),
+        _ => None,
     }
-    ReadText::Is(t)
 }
 
 // The highest bit alone: two's complement's sign, and a float's.

@@ -3,25 +3,23 @@
 ghost use Rattle.std.specs.Prelude.{◌≤◌};
 
 use crate::ending::{ending_of, filling_of};
-use answers::answer::Collected;
 use answers::detail::name_of;
 use calls::head::{HEAD, PAIR, VALUE};
-use can_fill::CanFill;
 use cells::record::cell;
 use cuts::record::Cut;
-use cuts::{Played, play};
+use cuts::{Trial, play};
 use replay::compare::{Place, fresh_board, join, same, same_board, same_name, same_numbers};
 use replay::numbers::from_to;
 
 // `cells` is the cut's record; what is expected of it stands in `numbers` from `at` on.
-pub fn same_cut<'a>(
+pub fn same_cut(
     numbers: &[u64],
     at: &mut usize,
     place: Place,
     spec_cells: &[u64],
-    spec: &'a [u8],
+    spec: &[u8],
     cells: &[u64],
-    call: &'a [u8],
+    call: &[u8],
     fill: u64,
 ) -> bool {
     let p = VALUE * limited(cell(cells, 0));
@@ -40,15 +38,13 @@ pub fn same_cut<'a>(
         cut_of(cells),
         &mut board,
     );
-    match played {
-        Played::Outside => same(place, b"played, which is outside", 1, 0),
-        Played::Ended(answer, filling) => {
-            let told = same_told(numbers, at, place, answer, filling);
-            let named = same_name(numbers, at, place, name_of(spec, call, answer));
-            let kept = same_board(numbers, at, place, fill, &board);
-            told & named & kept
-        }
-    }
+    let Some(trial) = played else {
+        return same(place, b"played, which is outside", 1, 0);
+    };
+    let told = same_told(numbers, at, place, trial);
+    let named = same_name(numbers, at, place, name_of(spec, call, trial.collected));
+    let kept = same_board(numbers, at, place, fill, &board);
+    told & named & kept
 }
 
 // The cut that a cut's record shows: how much is written out, and which stars are there.
@@ -65,23 +61,14 @@ fn cut_of(cells: &[u64]) -> Cut {
 fn limited(count: u64) -> usize
     ensures { result ≤ 64 }
 {
-    if 64 < count {
-        return 0;
-    }
-    count as usize
+    if count <= 64 { count as usize } else { 0 }
 }
 
 // The answer, and that can-fill says yes exactly to what is accepted.
-fn same_told(
-    numbers: &[u64],
-    at: &mut usize,
-    place: Place,
-    answer: Collected,
-    filling: CanFill,
-) -> bool {
-    let ending = ending_of(answer);
+fn same_told(numbers: &[u64], at: &mut usize, place: Place, trial: Trial) -> bool {
+    let ending = ending_of(trial.collected);
     let told = same_numbers(numbers, at, place, b"number", 5, ending);
-    let whole = [0, (ending[0] == 0) as u64];
+    let whole = [0, trial.collected.is_ok() as u64];
     let mut i = 0;
     told & same_numbers(
         &whole,
@@ -89,6 +76,6 @@ fn same_told(
         place,
         b"can-fill of the whole",
         2,
-        filling_of(filling),
+        filling_of(trial.foretold),
     )
 }

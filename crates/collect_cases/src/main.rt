@@ -42,10 +42,8 @@ fn replay(numbers: &[u64]) {
 fn section(numbers: &[u64], at: &mut usize, index: u64) -> Tally {
     let cases = take(numbers, at);
     let mut tally = Tally::new();
-    let mut i = 0;
-    while i < cases {
+    for i in 0..cases {
         tally = tally.add(play(numbers, at, Place::new(index, i)));
-        i += 1;
     }
     tally
 }

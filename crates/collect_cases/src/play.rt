@@ -42,13 +42,13 @@ pub fn play(numbers: &[u64], at: &mut usize, place: Place) -> Played {
 }
 
 // The call against the list: can-fill, and then the call or its cuts.
-fn play_records<'a>(
+fn play_records(
     numbers: &[u64],
     at: &mut usize,
     place: Place,
     spec_cells: &[u64],
-    spec: &'a [u8],
-    call: &'a [u8],
+    spec: &[u8],
+    call: &[u8],
     lent: Lent,
 ) -> Played {
     let cells = counted(numbers, at);
@@ -68,28 +68,26 @@ fn play_records<'a>(
 }
 
 // Every cut of a call, each collected from its own record and then once more from P and N, as that record has them.
-fn play_cuts<'a>(
+fn play_cuts(
     numbers: &[u64],
     at: &mut usize,
     place: Place,
     cuts: u64,
     spec_cells: &[u64],
-    spec: &'a [u8],
-    call: &'a [u8],
+    spec: &[u8],
+    call: &[u8],
     lent: Lent,
 ) -> Played {
     let mut sixteen = false;
     let mut nineteen = false;
     let mut same = true;
-    let mut k = 0;
-    while k < cuts {
+    for k in 0..cuts {
         let cells = counted(numbers, at);
         let here = place.at_part(k);
         let one = play_both(numbers, at, here, spec_cells, spec, cells, call, lent);
-        sixteen = sixteen | (one.number == 16);
-        nineteen = nineteen | (one.number == 19);
-        same = same & one.same;
-        k += 1;
+        sixteen |= one.number == 16;
+        nineteen |= one.number == 19;
+        same &= one.same;
     }
     Played {
         same,
@@ -99,14 +97,14 @@ fn play_cuts<'a>(
 }
 
 // One cut, from its own record and from P and N: the same is expected of both.
-fn play_both<'a>(
+fn play_both(
     numbers: &[u64],
     at: &mut usize,
     place: Place,
     spec_cells: &[u64],
-    spec: &'a [u8],
+    spec: &[u8],
     cells: &[u64],
-    call: &'a [u8],
+    call: &[u8],
     lent: Lent,
 ) -> One {
     let mut expected = *at;
@@ -128,14 +126,14 @@ fn play_both<'a>(
 }
 
 // One call collected on a fresh board, against what is expected of it.
-fn play_call<'a>(
+fn play_call(
     numbers: &[u64],
     at: &mut usize,
     place: Place,
     spec_cells: &[u64],
-    spec: &'a [u8],
+    spec: &[u8],
     cells: &[u64],
-    call: &'a [u8],
+    call: &[u8],
     lent: Lent,
 ) -> One {
     let mut board = fresh_board(lent.fill);

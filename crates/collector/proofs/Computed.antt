@@ -4,13 +4,13 @@ use mathlib.Core.Path.{refl}
 use mathlib.Core.List.{[], ◌∷◌}
 use lib.Dec.{lit≤}
 use lib.ListN.{replicate}
+use Rattle.std.specs.Prelude.{None}
 use Rattle.rules.specs.Value.{value_width, read_value, well_formed, well_formed_argument}
 use Rattle.rules.specs.CallRecord.{head_width, pair_width, read_head, call_length, read_call}
 use Rattle.rules.specs.Parameters.{comes_before, positional, positional_only, nameable, positional_only_count, positional_count, args_index, kwargs_index}
 use Rattle.rules.specs.CallQuestions.{lengths_right, kinds_right, parts_well_formed, entries_differ, ask_form}
 use Rattle.rules.specs.Passed.{name_inside}
 use Rattle.builder.specs.Params.{parameter_of, parameter_at, parameters_in}
-use Rattle.builder.specs.declared.spec.Index.TheVariants.{Absent}
 use Rattle.builder.specs.declared.spec.ParametersSpec.{ParametersSpec}
 use Rattle.calls.specs.Keys.{ask_keys}
 use Rattle.collector.specs.Paths.{Short}
@@ -28,7 +28,7 @@ one_parameter =
             default_payloads = replicate 64 0;
             len = 1;
           };
-      indices = record { num_positional_only = 1; num_positional = 1; args = Absent; kwargs = Absent };
+      indices = record { num_positional_only = 1; num_positional = 1; args = None; kwargs = None };
     }
 
 pub short_one : Short (97 ∷ []) one_parameter (1 ∷ 0 ∷ 0 ∷ 0 ∷ 0 ∷ 0 ∷ 1 ∷ 0 ∷ []) [] (replicate 896 0)

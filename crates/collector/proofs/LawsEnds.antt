@@ -2,9 +2,10 @@
 -- the outcome of `rules`.
 -- Assumes nothing.
 use mathlib.Core.Path.{◌≡◌, refl, sym, ap, ap₂, subst, ◌∙◌}
-use mathlib.Core.Bool.{true, false, ◌&&◌, false≢true}
+use mathlib.Core.Bool.{true, false, ◌&&◌}
 use mathlib.Core.List.{List, [], ◌∷◌, ◌++◌, map, append-nil}
 use Prim.Native.Nat.{ℕ, suc, ◌+◌, ◌*◌, ◌≤◌, ◌<◌}
+use Rattle.std.specs.Prelude.{Ok, Err}
 use native.Mathlib.Nat.{zero-add}
 use native.Mathlib.Omega.{arith}
 use borrow.Author.Tests.{eqb-true, le-leb, lt-leb}
@@ -31,7 +32,10 @@ use Rattle.cells.specs.Listed.{listed}
 use Rattle.builder.specs.Params.{parameters_in}
 use Rattle.builder.specs.declared.spec.ParametersSpec.{ParametersSpec}
 use Rattle.cells.proofs.LawsListed.{length_listed, elements}
-use Rattle.answers.specs.Answer.{is_numbered, answer_in, is_refusal, counts_of}
+use Rattle.answers.specs.Answer.{record_numbered, is_numbered, answer_in, counts_of}
+use Rattle.cells.specs.Question.{number_of, refused}
+use Rattle.cells.specs.declared.question.Question.{Question}
+use Rattle.cells.specs.declared.question.Question.TheVariants.{RepeatedName, ShortBoard}
 use Rattle.calls.specs.Head.{named_from, entries_from}
 use Rattle.calls.specs.Keys.{ask_keys}
 use Rattle.calls.proofs.LawsCall.{call_in_turn, keys_form}
@@ -43,8 +47,8 @@ use Rattle.questions.specs.Questions.{CallReady}
 use Rattle.collector.specs.Collect.{Ends, binding_of, bound_to, is_short, ShortCall}
 use Rattle.answers.proofs.LawsTold.{list_numbered, call_numbered}
 use Rattle.answers.specs.declared.answer.Counts.{Counts}
-use Rattle.answers.specs.declared.answer.Collected.{Collected}
-use Rattle.answers.specs.declared.answer.Collected.TheVariants.{Accepted, Record, ArgsArrayIsNotIterable, RepeatedParameter, KwArgsIsNotDict, ArgsValueIsNotString, RepeatedArg, MissingPositionalOnly, Missing, MissingNamedOnly, ExtraPositionalArg, ExtraNamedArg}
+use Rattle.answers.specs.declared.answer.Refusal.{Refusal}
+use Rattle.answers.specs.declared.answer.Refusal.TheVariants.{Record}
 use Rattle.collector.proofs.LawsReady.{none_written}
 use Rattle.cells.proofs.LawsOut.{stored_first}
 use Rattle.cells.proofs.LawsWrite.{value_cells_two}
@@ -55,28 +59,14 @@ use Rattle.slots.proofs.LawsWritten.{board_placed, counts_placed}
 -- ---- a refusal
 
 module _ (qs : List Parameter) (P : List Value) (N : List Named) (board : List ℕ) where
-  refusal_ends : (a : Collected) → is_refusal a ≡ true → is_numbered a ≡ true → Ends (outcome_of (answer_in a) qs P N board) board board a
-  refusal_ends (Accepted c) e m = absurd (false≢true e)
-  refusal_ends (Record n) e m = record { answer = refl; numbered = m; board = refl }
-  refusal_ends ArgsArrayIsNotIterable e m = record { answer = refl; numbered = m; board = refl }
-  refusal_ends (RepeatedParameter payload) e m = record { answer = refl; numbered = m; board = refl }
-  refusal_ends KwArgsIsNotDict e m = record { answer = refl; numbered = m; board = refl }
-  refusal_ends ArgsValueIsNotString e m = record { answer = refl; numbered = m; board = refl }
-  refusal_ends (RepeatedArg payload) e m = record { answer = refl; numbered = m; board = refl }
-  refusal_ends (MissingPositionalOnly payload) e m = record { answer = refl; numbered = m; board = refl }
-  refusal_ends (Missing payload) e m = record { answer = refl; numbered = m; board = refl }
-  refusal_ends (MissingNamedOnly payload) e m = record { answer = refl; numbered = m; board = refl }
-  refusal_ends (ExtraPositionalArg n) e m = record { answer = refl; numbered = m; board = refl }
-  refusal_ends (ExtraNamedArg n payload) e m = record { answer = refl; numbered = m; board = refl }
-
-  pub ends_refused : (asked : Answer) (a : Collected) → is_refusal a ≡ true → is_numbered a ≡ true → answer_in a ≡ asked → Ends (outcome_of asked qs P N board) board board a
-  ends_refused asked a u m e = subst (λ x. Ends (outcome_of x qs P N board) board board a) e (refusal_ends a u m)
+  pub ends_refused : (asked : Answer) (a : Refusal) → is_numbered (Err a) ≡ true → answer_in (Err a) ≡ asked → Ends (outcome_of asked qs P N board) board board (Err a)
+  ends_refused asked a m e = subst (λ x. Ends (outcome_of x qs P N board) board board (Err a)) e (record { answer = refl; numbered = m; board = refl })
 
   -- ---- an acceptance
 
-  pub ends_accepted : (asked : Answer) (after : List ℕ) (c : Counts) → asked ≡ fine → counts_of c ≡ rules.counts_of qs P N → after ≡ board_after qs P N board → Ends (outcome_of asked qs P N board) board after (Accepted c)
+  pub ends_accepted : (asked : Answer) (after : List ℕ) (c : Counts) → asked ≡ fine → counts_of c ≡ rules.counts_of qs P N → after ≡ board_after qs P N board → Ends (outcome_of asked qs P N board) board after (Ok c)
   ends_accepted asked after c e counts so =
-      subst (λ x. Ends (outcome_of x qs P N board) board after (Accepted c)) (sym e) (record { answer = ap₂ accepted counts so; numbered = refl; board = so })
+      subst (λ x. Ends (outcome_of x qs P N board) board after (Ok c)) (sym e) (record { answer = ap₂ accepted counts so; numbered = refl; board = so })
 
 -- ---- the general path
 
@@ -111,7 +101,7 @@ module _ (spec : List ℕ) (l : ParametersSpec) (cells area : List ℕ) (h : Hea
   count_few : count ≤ 128
   count_few = omega (arith, r.in_rest, names_few)
 
-  pub board_ready : (board : List ℕ) → 896 ≤ length board → BoardReady l.params.len l.indices.num_positional cells h rest count board
+  pub board_ready : (board : List ℕ) → 896 ≤ length board → BoardReady l cells h rest count board
   unfolding positional_count
   board_ready board long =
       record {
@@ -127,7 +117,7 @@ module _ (spec : List ℕ) (l : ParametersSpec) (cells area : List ℕ) (h : Hea
         long = long;
       }
 
-  pub slow_ends : (before after : List ℕ) (counts : Counts) → 896 ≤ length before → fine ≡ ask_binding qs c → BoardWritten l.params.codes l.params.default_kinds l.params.default_payloads l.params.len l.indices.num_positional cells h next sources rest count before after counts → Ends (binding_of qs c before) before after (Accepted counts)
+  pub slow_ends : (before after : List ℕ) (counts : Counts) → 896 ≤ length before → fine ≡ ask_binding qs c → BoardWritten l cells h next sources rest count before after counts → Ends (binding_of qs c before) before after (Ok counts)
   slow_ends before after counts long passed so =
       ends_accepted qs (positionals_of c) (named_of c) before (ask_binding qs c) after counts (sym passed)
       (counts_placed spec l ready.list cells area (positionals_of c) (named_of c) sources rest count next ready.upto r count_few h ready.values ready.long before after counts so)
@@ -148,7 +138,7 @@ module _ (qs : List Parameter) (c : Call) (cells : List ℕ) (h : Head) (short :
   unfolding named_of
   no_names = rw (short.unnamed, short.no_double)
 
-  pub short_ends : Ends (binding_of qs c before) before after (Accepted (record { taken = h.p; defaulted = 0; star = 0; named = 0 }))
+  pub short_ends : Ends (binding_of qs c before) before after (Ok (record { taken = h.p; defaulted = 0; star = 0; named = 0 }))
   unfolding board_after
   short_ends =
       rw (all_values, no_names)
@@ -238,28 +228,28 @@ module _ (qs : List Parameter) (cells area board : List ℕ) where
   unfolding ask_board
   board_asked = ap (λ n. ask 14 (leb n (length board))) board_least_64
 
-  pub bound_refused : (n : ℕ) → ask_call 64 cells area ≡ refuse n none → Ends (bound_to qs cells area board) board board (Record n)
+  pub bound_refused : (q : Question) → ask_call 64 cells area ≡ refused q → Ends (bound_to qs cells area board) board board (Err (Record q))
   unfolding bound_to
-  bound_refused n e =
-      ends_refused qs (positionals_of c) (named_of c) board (ask_call 64 cells area then ask_board 64 64 board then ask_binding qs c) (Record n) refl
-      (number_by (λ k. is_numbered (Record k)) (ask_call 64 cells area) n none (wider_by 9 13 (λ k. is_numbered (Record k)) (λ k l m. call_numbered k l (omega arith)) (ask_call 64 cells area) (call_in_lem 64 cells area)) e)
+  bound_refused q e =
+      ends_refused qs (positionals_of c) (named_of c) board (ask_call 64 cells area then ask_board 64 64 board then ask_binding qs c) (Record q)
+      (number_by record_numbered (ask_call 64 cells area) (number_of q) none (wider_by 9 13 record_numbered (λ k l m. call_numbered k l (omega arith)) (ask_call 64 cells area) (call_in_lem 64 cells area)) e)
       (sym (ap (λ a. a then ask_board 64 64 board then ask_binding qs c) e))
 
   -- what 9 to 12 refuse, and 13 after them
-  pub bound_keys : (n : ℕ) → ask_keys 64 cells area ≡ refuse n none → Ends (bound_to qs cells area board) board board (Record n)
-  bound_keys n e = bound_refused n (call_in_turn 64 cells area ∙ ap (λ a. a then ask 13 (names_differ area (read_call cells))) e)
+  pub bound_keys : (q : Question) → ask_keys 64 cells area ≡ refused q → Ends (bound_to qs cells area board) board board (Err (Record q))
+  bound_keys q e = bound_refused q (call_in_turn 64 cells area ∙ ap (λ a. a then ask 13 (names_differ area (read_call cells))) e)
 
-  pub bound_names : ask_keys 64 cells area ≡ fine → names_differ area (read_call cells) ≡ false → Ends (bound_to qs cells area board) board board (Record 13)
-  bound_names e d = bound_refused 13 (call_in_turn 64 cells area ∙ ap (λ a. a then ask 13 (names_differ area (read_call cells))) e ∙ ap (ask 13) d)
+  pub bound_names : ask_keys 64 cells area ≡ fine → names_differ area (read_call cells) ≡ false → Ends (bound_to qs cells area board) board board (Err (Record RepeatedName))
+  bound_names e d = bound_refused RepeatedName (call_in_turn 64 cells area ∙ ap (λ a. a then ask 13 (names_differ area (read_call cells))) e ∙ ap (ask 13) d)
 
   pub call_passed : ask_keys 64 cells area ≡ fine → names_differ area (read_call cells) ≡ true → ask_call 64 cells area ≡ fine
   call_passed e d = call_in_turn 64 cells area ∙ ap (λ a. a then ask 13 (names_differ area (read_call cells))) e ∙ ap (ask 13) d
 
   module _ (passed : ask_call 64 cells area ≡ fine) where
-    pub bound_short_board : length board < 896 → Ends (bound_to qs cells area board) board board (Record 14)
+    pub bound_short_board : length board < 896 → Ends (bound_to qs cells area board) board board (Err (Record ShortBoard))
     unfolding bound_to
     bound_short_board low =
-        ends_refused qs (positionals_of c) (named_of c) board (ask_call 64 cells area then ask_board 64 64 board then ask_binding qs c) (Record 14) refl refl
+        ends_refused qs (positionals_of c) (named_of c) board (ask_call 64 cells area then ask_board 64 64 board then ask_binding qs c) (Record ShortBoard) refl
         (sym (ap (λ a. a then ask_board 64 64 board then ask_binding qs c) passed ∙ ap (λ a. a then ask_binding qs c) (board_asked ∙ ap (ask 14) (lt-leb 896 (length board) low))))
 
     pub bound_binding : 896 ≤ length board → bound_to qs cells area board ≡ binding_of qs c board
@@ -281,17 +271,17 @@ module _ (spec_cells spec cells area board : List ℕ) where
   in_turn fine (refuse n x) d e = refl
   in_turn fine fine d e = refl
 
-  pub collection_refused : (n : ℕ) → ask_parameters 64 spec_cells spec ≡ refuse n none → Ends (collection 64 64 spec_cells spec cells area board) board board (Record n)
+  pub collection_refused : (q : Question) → ask_parameters 64 spec_cells spec ≡ refused q → Ends (collection 64 64 spec_cells spec cells area board) board board (Err (Record q))
   unfolding collection ask_records
-  collection_refused n e =
+  collection_refused q e =
       ends_refused (list_of spec_cells spec) (positionals_of (call_of cells area)) (named_of (call_of cells area)) board
-      ((ask_parameters 64 spec_cells spec then ask_call 64 cells area then ask_board 64 64 board) then ask_binding (list_of spec_cells spec) (call_of cells area)) (Record n) refl
-      (number_by (λ k. is_numbered (Record k)) (ask_parameters 64 spec_cells spec) n none (wider_by 1 7 (λ k. is_numbered (Record k)) list_numbered (ask_parameters 64 spec_cells spec) (parameters_in_lem 64 spec_cells spec)) e)
+      ((ask_parameters 64 spec_cells spec then ask_call 64 cells area then ask_board 64 64 board) then ask_binding (list_of spec_cells spec) (call_of cells area)) (Record q)
+      (number_by record_numbered (ask_parameters 64 spec_cells spec) (number_of q) none (wider_by 1 7 record_numbered list_numbered (ask_parameters 64 spec_cells spec) (parameters_in_lem 64 spec_cells spec)) e)
       (sym (ap (λ a. (a then ask_call 64 cells area then ask_board 64 64 board) then ask_binding (list_of spec_cells spec) (call_of cells area)) e))
 
   pub collection_bound : (qs : List Parameter) → ask_parameters 64 spec_cells spec ≡ fine → qs ≡ list_of spec_cells spec → bound_to qs cells area board ≡ collection 64 64 spec_cells spec cells area board
   unfolding collection ask_records bound_to
-  collection_bound qs passed is =
+  collection_bound list passed is =
       ap (λ ps. bound_to ps cells area board) is
       ∙ ap (λ a. outcome_of a (list_of spec_cells spec) (positionals_of (call_of cells area)) (named_of (call_of cells area)) board)
       (sym

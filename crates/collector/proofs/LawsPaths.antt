@@ -4,13 +4,15 @@ use mathlib.Core.Path.{◌≡◌, refl, sym, subst, ◌∙◌}
 use mathlib.Core.List.{List}
 use Prim.Native.Nat.{ℕ, ◌+◌, min}
 use lib.ListN.{replicate}
+use Rattle.std.specs.Prelude.{Result}
 use Rattle.rules.specs.Answer.{fine}
 use Rattle.rules.specs.CallRecord.{Head, read_head}
 use Rattle.rules.specs.CallQuestions.{ask_form}
 use Rattle.rules.specs.Collection.{Outcome, call_of}
 use Rattle.builder.specs.Params.{parameters_in}
 use Rattle.builder.specs.declared.spec.ParametersSpec.{ParametersSpec}
-use Rattle.answers.specs.declared.answer.Collected.{Collected}
+use Rattle.answers.specs.declared.answer.Counts.{Counts}
+use Rattle.answers.specs.declared.answer.Refusal.{Refusal}
 use Rattle.answers.proofs.LawsTold.{told_one}
 use Rattle.calls.specs.Head.{named_from}
 use Rattle.calls.proofs.LawsCall.{keys_form}
@@ -24,8 +26,8 @@ use Rattle.collector.proofs.LawsReady.{call_ready, inline_ready, none_resolved}
 use Rattle.collector.proofs.LawsEnds.{short_call, short_unnamed, short_passed}
 
 -- an outcome over a board is told by one answer, and leaves one board
-ends_one : (o : Outcome) (before after after' : List ℕ) (r r' : Collected) → Ends o before after r → Ends o before after' r' → (r ≡ r') × (after ≡ after')
-ends_one o before after after' r r' e e' = (told_one r r' after after' e.numbered e'.numbered (e.answer ∙ sym e'.answer), e.board ∙ sym e'.board)
+ends_one : (o : Outcome) (before after after' : List ℕ) (r r' : Result Counts Refusal) → Ends o before after r → Ends o before after' r' → (r ≡ r') × (after ≡ after')
+ends_one o before after after' r r' e e' = (told_one r r' after after' (e.answer ∙ sym e'.answer), e.board ∙ sym e'.board)
 
 module _ (spec : List ℕ) (l : ParametersSpec) (cells area board : List ℕ) (short : Short spec l cells area board) where
   abbrev h : Head

@@ -1,5 +1,5 @@
 -- What collection promises, from a call that passed its questions up to raw records, and when the short path is taken.
-use Rattle.std.specs.Prelude.{◌≡◌, Bool, true, ◌&&◌, List, [], ℕ, ◌+◌, ◌*◌, ◌≤◌, eqb, length}
+use Rattle.std.specs.Prelude.{◌≡◌, Bool, true, ◌&&◌, List, [], ℕ, ◌+◌, ◌*◌, ◌≤◌, Result, eqb, length}
 use Rattle.rules.specs.Answer.{fine, ◌then◌}
 use Rattle.rules.specs.CallRecord.{Head, read_head, Call, no_star, no_double, positionals_of, named_of}
 use Rattle.rules.specs.Parameters.{Parameter, positional_count}
@@ -15,15 +15,13 @@ use Rattle.findings.specs.Resolved.{Resolved}
 use Rattle.findings.specs.Resolve.{Prepared}
 use Rattle.findings.specs.EntriesDone.{written_names}
 use Rattle.questions.specs.Questions.{CallReady}
-use Rattle.answers.specs.declared.answer.Collected.{Collected}
-use Rattle.calls.specs.Head.{head_of, Few}
-use Rattle.calls.specs.declared.head.Head.{Head as CodeHead}
-use Rattle.collector.specs.declared.collect.Begun.{Begun}
-use Rattle.collector.specs.declared.collect.Begun.TheVariants.{Ended, Open}
+use Rattle.answers.specs.declared.answer.Counts.{Counts}
+use Rattle.answers.specs.declared.answer.Refusal.{Refusal}
+use Rattle.calls.specs.Head.{Few}
 
 -- an answer, with the board before and after it, is an outcome of `rules`: number and detail, or the counts, in the one answer that tells them;
 -- and every cell of the board
-pub record Ends (outcome : Outcome) (before after : List ℕ) (r : Collected) : Type 0 where
+pub record Ends (outcome : Outcome) (before after : List ℕ) (r : Result Counts Refusal) : Type 0 where
   pub answer : told r after ≡ outcome
   pub numbered : is_numbered r ≡ true
   pub board : after ≡ board_left outcome before
@@ -43,11 +41,6 @@ abbrev pub is_short : (positional len : ℕ) → Head → Bool
 is_short positional len h =
     eqb h.p positional && (eqb positional len && (eqb h.n 0 && (eqb h.star_kind 0 && eqb h.double_kind 0)))
 
--- after 9 to 12 and the short path a call has ended as it does against the list, or it passed 9 to 12 and nothing is written
-pub record Beginning (qs : List Parameter) (cells area before after : List ℕ) (r : Begun) : Type 0 where
-  pub ended : (c : Collected) → r ≡ Ended c → Ends (bound_to qs cells area before) before after c
-  pub left_open : (h : CodeHead) → r ≡ Open h → (head_of h ≡ read_head cells) × (ask_keys 64 cells area ≡ fine) × (after ≡ before)
-
 -- a call that the short path is for, its values standing in a record
 pub record ShortCall (qs : List Parameter) (c : Call) (cells : List ℕ) (h : Head) : Type 0 where
   pub all_positional : positional_count qs ≡ length qs
@@ -64,7 +57,7 @@ pub record InlineReady (cells : List ℕ) (h : Head) (board : List ℕ) : Type 0
   pub long : 896 ≤ length board
 
 -- what it promises: each call that it is for has ended as it does against its list
-abbrev pub InlineEnds : (cells : List ℕ) → Head → (before after : List ℕ) → Collected → Type 0
+abbrev pub InlineEnds : (cells : List ℕ) → Head → (before after : List ℕ) → Result Counts Refusal → Type 0
 InlineEnds cells h before after r = (qs : List Parameter) (c : Call) → ShortCall qs c cells h → Ends (binding_of qs c before) before after r
 
 -- a prepared list, and a record that passes 9 to 12
@@ -80,5 +73,5 @@ pub record SlowReady (spec : List ℕ) (l : ParametersSpec) (cells area : List �
   pub long : 896 ≤ length board
 
 -- and what the general path then promises: the call has ended as it does against the list
-abbrev pub SlowEnds : (spec : List ℕ) → ParametersSpec → (cells area before after : List ℕ) → Collected → Type 0
+abbrev pub SlowEnds : (spec : List ℕ) → ParametersSpec → (cells area before after : List ℕ) → Result Counts Refusal → Type 0
 SlowEnds spec l cells area before after r = Ends (binding_of (parameters_in spec l.params) (call_of cells area) before) before after r

@@ -1,12 +1,13 @@
 -- The short path and the general one (01, short path): wherever the first applies the second does too, and both end alike.
-use Rattle.std.specs.Prelude.{◌≡◌, true, List, ℕ, ◌+◌, min, ◌≤◌, length, replicate}
+use Rattle.std.specs.Prelude.{◌≡◌, true, List, ℕ, ◌+◌, min, ◌≤◌, Result, length, replicate}
 use Rattle.rules.specs.Answer.{fine}
 use Rattle.rules.specs.CallRecord.{read_head}
 use Rattle.rules.specs.CallQuestions.{ask_call}
 use Rattle.builder.specs.declared.spec.ParametersSpec.{ParametersSpec}
 use Rattle.calls.specs.Keys.{ask_keys}
 use Rattle.findings.specs.Resolve.{Prepared}
-use Rattle.answers.specs.declared.answer.Collected.{Collected}
+use Rattle.answers.specs.declared.answer.Counts.{Counts}
+use Rattle.answers.specs.declared.answer.Refusal.{Refusal}
 use Rattle.collector.specs.Collect.{is_short, InlineReady, InlineEnds, SlowReady, SlowEnds}
 
 -- a record that passes 9 to 12, which the short path is for against a prepared list, and a board that passes 14
@@ -29,5 +30,5 @@ pub record PathsAgree (spec : List ℕ) (l : ParametersSpec) (cells area board :
       0 board
   -- and what each of them promises are the same answer and the same board
   pub alike
-      : (r r' : Collected) (after after' : List ℕ) → InlineEnds cells (read_head cells) board after r → SlowEnds spec l cells area board after' r'
+      : (r r' : Result Counts Refusal) (after after' : List ℕ) → InlineEnds cells (read_head cells) board after r → SlowEnds spec l cells area board after' r'
       → (r ≡ r') × (after ≡ after')

@@ -8,6 +8,7 @@ use native.Mathlib.Omega.{arith}
 use lib.Dec.{leb, eqb}
 use lib.ListN.{length, take, drop, length-append}
 use lib.Seq.{take_all, take_at, drop-length}
+use Rattle.std.specs.Prelude.{Option, None, Result}
 use borrow.Author.Tests.{leb-true, eqb-true}
 use Rattle.rules.specs.Listing.{all}
 use Rattle.rules.specs.Cells.{over}
@@ -27,15 +28,15 @@ use Rattle.calls.proofs.LawsEach.{each_length}
 use Rattle.answers.specs.Answer.{told}
 use Rattle.can_fill.specs.CanFill.{filling_in}
 use Rattle.collector.specs.Collect.{Ends}
-use Rattle.answers.specs.declared.answer.Collected.{Collected}
-use Rattle.can_fill.specs.declared.CanFill.{CanFill}
+use Rattle.answers.specs.declared.answer.Counts.{Counts}
+use Rattle.answers.specs.declared.answer.Refusal.{Refusal}
+use Rattle.cells.specs.declared.question.Question.{Question}
 use Rattle.cuts.specs.Record.{values_of, pairs_of, head_cells, run_of, Fits}
 use Rattle.cuts.specs.Play.{passes, sizes_right, passing, in_domain, Demanded, Playing, records_pass, Tried}
-use Rattle.cuts.specs.declared.Played.{Played}
-use Rattle.cuts.specs.declared.Played.TheVariants.{Outside}
+use Rattle.cuts.specs.declared.Trial.{Trial}
 use Rattle.cuts.proofs.LawsRun.{run_length}
 use Rattle.cuts.proofs.LawsWrite.{cut_cells}
-use Rattle.cuts.proofs.LawsPlay.{outside_ended, passes_fine, whole_formed, whole_passes}
+use Rattle.cuts.proofs.LawsPlay.{none_some, passes_fine, whole_formed, whole_passes}
 
 -- ---- sizes
 
@@ -153,16 +154,16 @@ whole_cells positionals named =
 -- ---- what is played
 
 module _ (spec_cells spec_bytes positionals named call_bytes : List ℕ) (c : Cut) (before : List ℕ) where
-  pub play_outside : sizes_right (length positionals) (length named) c ≡ false → Playing spec_cells spec_bytes positionals named call_bytes c before before Outside
+  pub play_outside : sizes_right (length positionals) (length named) c ≡ false → Playing spec_cells spec_bytes positionals named call_bytes c before before None
   unfolding in_domain
   play_outside e =
       record {
         outside = λ z.
             and_no_left (sizes_right (length positionals) (length named) c) (passing spec_cells spec_bytes (values_of positionals) (pairs_of named) call_bytes (length before)) e;
         untouched = λ z. refl;
-        inside = λ x y z. outside_ended x y z;
-        numbered = λ x y z. outside_ended x y z;
-        ended = λ x y z. outside_ended x y z;
+        inside = λ t z. none_some z;
+        numbered = λ t z. none_some z;
+        ended = λ t z. none_some z;
       }
 
   module _ (sizes : sizes_right (length positionals) (length named) c ≡ true) where
@@ -212,7 +213,7 @@ module _ (spec_cells spec_bytes positionals named call_bytes : List ℕ) (c : Cu
         }
 
     -- demand 3 of what two records gave
-    demanded : (after : List ℕ) (e : Collected) (f : CanFill) → Domain 64 64 spec_cells spec_bytes call_bytes P N before
+    demanded : (after : List ℕ) (e : Result Counts Refusal) (f : Result Bool Question) → Domain 64 64 spec_cells spec_bytes call_bytes P N before
         → Ends (ending 64 64 spec_cells spec_bytes call_bytes P N before c) before after e → filling_in f ≡ fillable 64 64 spec_cells spec_bytes (encode_call (whole_record P N)) call_bytes
         → Demanded spec_cells spec_bytes call_bytes P N c before after (told e after) f
     demanded after e f inside ends filling =
@@ -228,19 +229,19 @@ module _ (spec_cells spec_bytes positionals named call_bytes : List ℕ) (c : Cu
           placed = λ counts cells z. demand.placed c counts cells (sym ends.answer ∙ z);
         }
 
-    pub play_tried : (whole cells after : List ℕ) (r : Played) → whole ≡ encode_call (whole_record (values_of positionals) (pairs_of named)) → cells ≡ encode_call (cut_record (values_of positionals) (pairs_of named) c)
+    pub play_tried : (whole cells after : List ℕ) (r : Option Trial) → whole ≡ encode_call (whole_record (values_of positionals) (pairs_of named)) → cells ≡ encode_call (cut_record (values_of positionals) (pairs_of named) c)
         → Tried spec_cells spec_bytes whole cells call_bytes before after r → Playing spec_cells spec_bytes positionals named call_bytes c before after r
     unfolding P N
     play_tried whole cells after r is_whole is_cut tried =
         record {
           outside = λ z. tested ∙ sym asked ∙ tried.outside z;
           untouched = λ z. tried.untouched z;
-          inside = λ x y z. tested ∙ sym asked ∙ tried.passed x y z;
-          numbered = λ x y z. (tried.collected x y z).numbered;
-          ended = λ x y z.
-              demanded after x y (domain (sym asked ∙ tried.passed x y z))
-              (subst (λ l. Ends (collection 64 64 spec_cells spec_bytes l call_bytes before) before after x) is_cut (tried.collected x y z))
-              (tried.filling x y z ∙ ap (λ l. fillable 64 64 spec_cells spec_bytes l call_bytes) is_whole);
+          inside = λ t z. tested ∙ sym asked ∙ tried.passed t z;
+          numbered = λ t z. (tried.collected t z).numbered;
+          ended = λ t z.
+              demanded after t.collected t.foretold (domain (sym asked ∙ tried.passed t z))
+              (subst (λ l. Ends (collection 64 64 spec_cells spec_bytes l call_bytes before) before after t.collected) is_cut (tried.collected t z))
+              (tried.filling t z ∙ ap (λ l. fillable 64 64 spec_cells spec_bytes l call_bytes) is_whole);
         }
       where
         asked : records_pass spec_cells spec_bytes whole call_bytes (length before) ≡ records_pass spec_cells spec_bytes (encode_call (whole_record P N)) call_bytes (length before)

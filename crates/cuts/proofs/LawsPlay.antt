@@ -6,6 +6,7 @@ use mathlib.Core.List.{List, map}
 use Prim.Native.Nat.{ℕ, ◌≤◌}
 use native.Mathlib.Omega.{arith}
 use lib.ListN.{length}
+use Rattle.std.specs.Prelude.{None, Some}
 use Rattle.rules.specs.Listing.{all}
 use Rattle.rules.specs.Text.{differ}
 use Rattle.rules.specs.Value.{Value, well_formed_argument}
@@ -19,28 +20,16 @@ use Rattle.rules.proofs.LawsRecord.{read_call_encode_call}
 use Rattle.rules.proofs.LawsAnswer.{then_left, then_right, ask_true}
 use Rattle.rules.proofs.LawsCut.{call_fine}
 use Rattle.calls.proofs.LawsCall.{form_parts}
-use Rattle.answers.specs.declared.answer.Collected.{Collected}
-use Rattle.can_fill.specs.declared.CanFill.{CanFill}
 use Rattle.cuts.specs.Play.{passes}
-use Rattle.cuts.specs.declared.Played.{Played}
-use Rattle.cuts.specs.declared.Played.TheVariants.{Outside, Ended}
+use Rattle.cuts.specs.declared.Trial.{Trial}
 
 -- ---- answers told apart
 
-abbrev tag : Played → ℕ
-tag Outside = 0
-tag (Ended e f) = 1
+pub none_some : {X : Type 0} {t : Trial} → None ≡ Some t → X
+none_some z = cc
 
-pub outside_ended : {X : Type 0} (e : Collected) (f : CanFill) → Outside ≡ Ended e f → X
-outside_ended e f z = let n : ◌≡◌ {A = ℕ} 0 1 = ap tag z in absurd (omega arith)
-
-abbrev pub collected_in : Collected → Played → Collected
-collected_in d Outside = d
-collected_in d (Ended e f) = e
-
-abbrev pub filling_of : CanFill → Played → CanFill
-filling_of d Outside = d
-filling_of d (Ended e f) = f
+pub some_one : {t u : Trial} → Some t ≡ Some u → t ≡ u
+some_one z = cc
 
 -- ---- the domain
 

@@ -1,10 +1,9 @@
--- Runs of values and pairs in lent cells (01, cells, texts and records), as a cut writes them. In this order: how many cells a run takes, a run
--- with one value more, its first things and the rest of them, and pairs as values. Assumes nothing.
+-- Runs of values and pairs in lent cells (01, cells, texts and records), as a cut writes them. In this order: how many cells a run takes, its
+-- first things and the rest of them, and pairs as values. Assumes nothing.
 use mathlib.Core.Path.{◌≡◌, refl, sym, ap, ◌∙◌}
-use mathlib.Core.List.{List, ◌∷◌, ◌++◌, append_assoc, append-nil}
+use mathlib.Core.List.{List, ◌∷◌, ◌++◌, append_assoc}
 use Prim.Native.Nat.{ℕ, zero, suc, ◌+◌, ◌-◌, ◌*◌, ◌≤◌}
 use native.Mathlib.Nat.{mul-suc}
-use native.Mathlib.Numerals.{add-one}
 use native.Mathlib.Omega.{arith}
 use lib.ListN.{length, take, drop}
 use lib.Seq.{drop-drop}
@@ -12,47 +11,14 @@ use Rattle.rules.specs.Cells.{read_each, write_each}
 use Rattle.rules.specs.Value.{value_width, value_cells, read_value}
 use Rattle.rules.specs.CallRecord.{pair_width, pair_cells, read_pair}
 use Rattle.rules.proofs.LawsRecord.{length_write_each, value_cells_wide}
-use Rattle.cells.specs.Out.{stored}
-use Rattle.cells.specs.Record.{pair_at}
 use Rattle.calls.proofs.LawsEach.{each_length}
 use Rattle.cuts.specs.Record.{run_of}
-use Rattle.cells.proofs.LawsOut.{stored_stored}
 
 pub run_length : (cells : List ℕ) (from count : ℕ) → length (run_of cells from count) ≡ 2 * count
 unfolding value_width
 run_length cells from count =
     length_write_each 2 read_value value_cells value_cells_wide (read_each 2 read_value count (drop from cells))
     ∙ ap (λ n. 2 * n) (each_length 2 read_value count (drop from cells))
-
--- ---- one value more
-
-more : (count : ℕ) (cells : List ℕ) → write_each value_cells (read_each 2 read_value (suc count) cells) ≡ write_each value_cells (read_each 2 read_value count cells) ++ value_cells (read_value (drop (2 * count) cells))
-more zero cells = append-nil (value_cells (read_value cells))
-more (suc count) cells =
-    let e : 2 * suc count ≡ 2 + 2 * count = omega arith in
-    ap (λ l. value_cells (read_value cells) ++ l) (more count (drop 2 cells))
-    ∙ sym (append_assoc (value_cells (read_value cells)) (write_each value_cells (read_each 2 read_value count (drop 2 cells))) (value_cells (read_value (drop (2 * count) (drop 2 cells)))))
-    ∙ ap (λ l. (value_cells (read_value cells) ++ write_each value_cells (read_each 2 read_value count (drop 2 cells))) ++ value_cells (read_value l)) (drop-drop (2 * count) 2 cells ∙ ap (λ n. drop n cells) (sym e))
-
-run_more : (cells : List ℕ) (from count : ℕ) → run_of cells from (count + 1) ≡ run_of cells from count ++ value_cells (pair_at cells (from + 2 * count))
-unfolding value_width pair_at
-run_more cells from count =
-    ap (λ n. write_each value_cells (read_each 2 read_value n (drop from cells))) (add-one count)
-    ∙ more count (drop from cells)
-    ∙ ap (λ l. write_each value_cells (read_each 2 read_value count (drop from cells)) ++ value_cells (read_value l)) (drop-drop (2 * count) from cells)
-
--- a run that is stored, and its next value stored behind it
-pub stored_more : (cells : List ℕ) (from count at : ℕ) (before : List ℕ) → at + 2 * count + 2 ≤ length before
-    → stored (stored before at (run_of cells from count)) (at + 2 * count) (value_cells (pair_at cells (from + 2 * count))) ≡ stored before at (run_of cells from (count + 1))
-unfolding value_width
-stored_more cells from count at before fits =
-    stored_stored before (run_of cells from count) (value_cells (pair_at cells (from + 2 * count))) at (at + 2 * count)
-    (ap (λ n. at + n) (sym (run_length cells from count)))
-    (room (value_cells_wide (pair_at cells (from + 2 * count))))
-    ∙ ap (stored before at) (sym (run_more cells from count))
-  where
-    room : length (value_cells (pair_at cells (from + 2 * count))) ≡ 2 → at + 2 * count + length (value_cells (pair_at cells (from + 2 * count))) ≤ length before
-    room e = omega arith
 
 -- ---- the first things of a run, and the rest of them
 

@@ -1,6 +1,6 @@
 -- Demand 3 about what the code returns (01, demand 3): when a cut of P and N is played, and what then holds of its ending and of what can-fill
 -- foretells. Cut, Domain, ending, merge and Placed are those of `rules`, at 64 parameters and 64 arguments.
-use Rattle.std.specs.Prelude.{◌≡◌, Bool, true, false, ◌&&◌, List, map, ℕ, ◌/◌, ◌%◌, ◌≤◌, leb, eqb, length}
+use Rattle.std.specs.Prelude.{◌≡◌, Bool, true, false, ◌&&◌, List, map, ℕ, ◌/◌, ◌%◌, ◌≤◌, Option, None, Some, Result, leb, eqb, length}
 use Rattle.rules.specs.Listing.{all}
 use Rattle.rules.specs.Text.{differ}
 use Rattle.rules.specs.Value.{Value, well_formed_argument}
@@ -16,11 +16,9 @@ use Rattle.rules.specs.Demand3.{Cut, merge, is_accepted, Domain, cut_cells, endi
 use Rattle.answers.specs.Answer.{is_numbered, told}
 use Rattle.can_fill.specs.CanFill.{filling_in}
 use Rattle.collector.specs.Collect.{Ends}
-use Rattle.answers.specs.declared.answer.Collected.{Collected}
-use Rattle.can_fill.specs.declared.CanFill.{CanFill}
+use Rattle.cells.specs.declared.question.Question.{Question}
 use Rattle.cuts.specs.Record.{values_of, pairs_of}
-use Rattle.cuts.specs.declared.Played.{Played}
-use Rattle.cuts.specs.declared.Played.TheVariants.{Outside, Ended}
+use Rattle.cuts.specs.declared.Trial.{Trial}
 
 -- ---- when a cut is played
 
@@ -48,7 +46,7 @@ in_domain spec_cells spec_bytes positionals named call_bytes c board =
 
 module _ (spec_cells spec_bytes call_bytes : List ℕ) (P : List Value) (N : List Pair) (c : Cut) (before after : List ℕ) where
   -- o is what collection told of the cut, f what can-fill answered of P and N written out whole
-  pub record Demanded (o : Outcome) (f : CanFill) : Type 0 where
+  pub record Demanded (o : Outcome) (f : Result Bool Question) : Type 0 where
     -- demand 3 speaks here
     pub domain : Domain 64 64 spec_cells spec_bytes call_bytes P N before
     -- what was returned is how this cut's call record ends
@@ -67,17 +65,17 @@ module _ (spec_cells spec_bytes call_bytes : List ℕ) (P : List Value) (N : Lis
     pub placed : (counts : Counts) (cells : List ℕ) → o ≡ accepted counts cells → Placed 64 64 spec_cells spec_bytes call_bytes P N before counts cells
 
 -- P and N are what `positionals` and `named` hold
-pub record Playing (spec_cells spec_bytes positionals named call_bytes : List ℕ) (c : Cut) (before after : List ℕ) (r : Played) : Type 0 where
-  -- `Outside` is answered only where demand 3 does not speak, or where the cut is none of P and N
-  pub outside : r ≡ Outside → in_domain spec_cells spec_bytes positionals named call_bytes c before ≡ false
+pub record Playing (spec_cells spec_bytes positionals named call_bytes : List ℕ) (c : Cut) (before after : List ℕ) (r : Option Trial) : Type 0 where
+  -- `None` is answered only where demand 3 does not speak, or where the cut is none of P and N
+  pub outside : r ≡ None → in_domain spec_cells spec_bytes positionals named call_bytes c before ≡ false
   -- and then nothing is written
-  pub untouched : r ≡ Outside → after ≡ before
+  pub untouched : r ≡ None → after ≡ before
   -- what is played lies inside
-  pub inside : (e : Collected) (f : CanFill) → r ≡ Ended e f → in_domain spec_cells spec_bytes positionals named call_bytes c before ≡ true
+  pub inside : (t : Trial) → r ≡ Some t → in_domain spec_cells spec_bytes positionals named call_bytes c before ≡ true
   -- it is told in the one answer that tells it
-  pub numbered : (e : Collected) (f : CanFill) → r ≡ Ended e f → is_numbered e ≡ true
+  pub numbered : (t : Trial) → r ≡ Some t → is_numbered t.collected ≡ true
   -- and all of demand 3 holds of what is returned
-  pub ended : (e : Collected) (f : CanFill) → r ≡ Ended e f → Demanded spec_cells spec_bytes call_bytes (values_of positionals) (pairs_of named) c before after (told e after) f
+  pub ended : (t : Trial) → r ≡ Some t → Demanded spec_cells spec_bytes call_bytes (values_of positionals) (pairs_of named) c before after (told t.collected after) t.foretold
 
 -- ---- what the inner functions promise
 
@@ -87,9 +85,9 @@ records_pass spec_cells spec_bytes whole call_bytes room =
     passes (ask_parameters 64 spec_cells spec_bytes) && (passes (ask_call 64 whole call_bytes) && leb 896 room)
 
 -- what is promised of two records, whatever they hold
-pub record Tried (spec_cells spec_bytes whole cells call_bytes before after : List ℕ) (r : Played) : Type 0 where
-  pub outside : r ≡ Outside → records_pass spec_cells spec_bytes whole call_bytes (length before) ≡ false
-  pub untouched : r ≡ Outside → after ≡ before
-  pub passed : (e : Collected) (f : CanFill) → r ≡ Ended e f → records_pass spec_cells spec_bytes whole call_bytes (length before) ≡ true
-  pub collected : (e : Collected) (f : CanFill) → r ≡ Ended e f → Ends (collection 64 64 spec_cells spec_bytes cells call_bytes before) before after e
-  pub filling : (e : Collected) (f : CanFill) → r ≡ Ended e f → filling_in f ≡ fillable 64 64 spec_cells spec_bytes whole call_bytes
+pub record Tried (spec_cells spec_bytes whole cells call_bytes before after : List ℕ) (r : Option Trial) : Type 0 where
+  pub outside : r ≡ None → records_pass spec_cells spec_bytes whole call_bytes (length before) ≡ false
+  pub untouched : r ≡ None → after ≡ before
+  pub passed : (t : Trial) → r ≡ Some t → records_pass spec_cells spec_bytes whole call_bytes (length before) ≡ true
+  pub collected : (t : Trial) → r ≡ Some t → Ends (collection 64 64 spec_cells spec_bytes cells call_bytes before) before after t.collected
+  pub filling : (t : Trial) → r ≡ Some t → filling_in t.foretold ≡ fillable 64 64 spec_cells spec_bytes whole call_bytes

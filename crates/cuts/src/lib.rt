@@ -5,25 +5,26 @@ ghost use Rattle.std.specs.Prelude.{◌≡◌};
 ghost use Rattle.cuts.specs.Record.{cut_of};
 ghost use Rattle.cuts.specs.Play.{sizes_right, records_pass, Tried, Playing};
 
-use answers::answer::Collected;
+use answers::answer::{Counts, Refusal};
 use builder::build;
 use calls::ask_call;
 use calls::head::{HEAD, PAIR, VALUE};
-use can_fill::{CanFill, can_fill_with_args};
-use cells::answer::Answer;
+use can_fill::can_fill_with_args;
+use cells::question::Question;
 use collector::collect::{BOARD, collect};
 use record::{CELLS, Cut, write_cut};
 
 pub mod record;
 
-// Where demand 3 does not speak nothing is played; where it does, how collection ends and what can-fill foretells.
-#[derive(Drop)]
-pub enum Played {
-    Outside,
-    Ended(Collected, CanFill),
+// A cut that was played: how collection ends, and what can-fill foretells.
+#[derive(Clone, Copy, Debug, PartialEq, Eq)]
+pub struct Trial {
+    pub collected: Result<Counts, Refusal>,
+    pub foretold: Result<bool, Question>,
 }
 
-// One cut, of any cells and bytes that are lent: `positionals` holds P, two cells a value, and `named` N, four cells a pair.
+// One cut, of any cells and bytes that are lent: `positionals` holds P, two cells a value, and `named` N, four cells a pair. Where demand 3 does not
+// speak nothing is played.
 pub fn play(
     spec_cells: &[u64],
     spec: &[u8],
@@ -32,13 +33,13 @@ pub fn play(
     area: &[u8],
     cut: Cut,
     board: &mut [u64],
-) -> Played
+) -> Option<Trial>
     ensures { Playing spec_cells.now spec.now positionals.now named.now area.now (cut_of cut) board.old board.new result }
 {
     let values = positionals.len();
     let pairs = named.len();
     if !sizes_right(values, pairs, cut) {
-        return Played::Outside;
+        return None;
     }
     let whole = Cut {
         at_p: values / VALUE,
@@ -46,9 +47,9 @@ pub fn play(
         list_given: false,
         dictionary_given: false,
     };
-    let mut whole_cells: [u64; CELLS] = [0; CELLS];
+    let mut whole_cells = [0; CELLS];
     write_cut(positionals, named, whole, &mut whole_cells);
-    let mut cut_cells: [u64; CELLS] = [0; CELLS];
+    let mut cut_cells = [0; CELLS];
     write_cut(positionals, named, cut, &mut cut_cells);
     let len = HEAD + values + pairs;
     try_cut(
@@ -65,22 +66,12 @@ pub fn play(
 fn sizes_right(values: usize, pairs: usize, cut: Cut) -> bool
     ensures { result ≡ sizes_right values pairs (cut_of cut) }
 {
-    if values % VALUE != 0 {
-        return false;
-    }
-    if pairs % PAIR != 0 {
-        return false;
-    }
-    if 64 < values / VALUE {
-        return false;
-    }
-    if 64 < pairs / PAIR {
-        return false;
-    }
-    if values / VALUE < cut.at_p {
-        return false;
-    }
-    cut.at_n <= pairs / PAIR
+    values % VALUE == 0
+        && pairs % PAIR == 0
+        && values / VALUE <= 64
+        && pairs / PAIR <= 64
+        && cut.at_p <= values / VALUE
+        && cut.at_n <= pairs / PAIR
 }
 
 // Both records as they were written: nothing is collected unless the list, the whole record and the board pass their questions.
@@ -91,29 +82,23 @@ fn try_cut(
     cells: &[u64],
     area: &[u8],
     board: &mut [u64],
-) -> Played
+) -> Option<Trial>
     ensures { Tried spec_cells.now spec.now whole.now cells.now area.now board.old board.new result }
 {
     if !records_pass(spec_cells, spec, whole, area, board.len()) {
-        return Played::Outside;
+        return None;
     }
-    let filling = can_fill_with_args(spec_cells, spec, whole, area);
+    let foretold = can_fill_with_args(spec_cells, spec, whole, area);
     let collected = collect(spec_cells, spec, cells, area, board);
-    Played::Ended(collected, filling)
+    Some(Trial {
+        collected,
+        foretold,
+    })
 }
 
 // Questions 1 to 7 of the list, 9 to 13 of P and N written out whole, and 14 of a board with `room` cells.
 fn records_pass(spec_cells: &[u64], spec: &[u8], whole: &[u64], area: &[u8], room: usize) -> bool
     ensures { result ≡ records_pass spec_cells.now spec.now whole.now area.now room }
 {
-    let built = build(spec_cells, spec);
-    let listed = built.answer;
-    if let Answer::Refused(_) = listed {
-        return false;
-    }
-    let asked = ask_call(whole, area);
-    if let Answer::Refused(_) = asked {
-        return false;
-    }
-    BOARD <= room
+    build(spec_cells, spec).is_ok() && ask_call(whole, area).is_ok() && BOARD <= room
 }

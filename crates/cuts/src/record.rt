@@ -8,11 +8,10 @@ ghost use Rattle.cuts.specs.Record.{cut_of, values_of, pairs_of, kind_of, head_c
 
 use calls::head::{HEAD, PAIR, VALUE};
 use cells::out::put;
-use cells::record::pair_at;
 use cells::value::Pair;
 
 // How many of P and of N are written out, and whether a rest that is empty is given all the same.
-#[derive(Clone, Copy)]
+#[derive(Clone, Copy, Debug, PartialEq, Eq)]
 pub struct Cut {
     pub at_p: usize,
     pub at_n: usize,
@@ -63,13 +62,7 @@ fn write_head(cut: Cut, s: usize, d: usize, out: &mut [u64])
 fn rest_kind(given: bool, count: usize) -> u64
     ensures { result ≡ kind_of given count }
 {
-    if given {
-        return 1;
-    }
-    if 0 < count {
-        return 1;
-    }
-    0
+    (given || 0 < count) as u64
 }
 
 // `count` values that stand from cell `from` on, stored from cell `at` on.
@@ -77,9 +70,6 @@ fn copy_values(cells: &[u64], from: usize, count: usize, out: &mut [u64], at: us
     requires { (from + 2 * count ≤ length cells.now) × (at + 2 * count ≤ length out.old) }
     ensures { out.new ≡ stored out.old at (run_of cells.now from count) }
 {
-    let mut k = 0;
-    while k < count {
-        put(out, at + VALUE * k, pair_at(cells, from + VALUE * k));
-        k += 1;
-    }
+    let len = VALUE * count;
+    out[at..at + len].copy_from_slice(&cells[from..from + len]);
 }

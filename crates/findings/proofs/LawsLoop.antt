@@ -1,6 +1,7 @@
 -- Laws of the loop over the entries: one more entry that is free, and an entry that is refused.
 -- Assumes nothing.
-use mathlib.Core.Path.{◌≡◌, sym, ap, ap₂, subst, ◌∙◌}
+use Rattle.std.specs.Prelude.{Option, Ok, Err}
+use mathlib.Core.Path.{◌≡◌, refl, sym, ap, ap₂, subst, ◌∙◌}
 use mathlib.Core.Bool.{true, false, cond}
 use mathlib.Core.List.{List, [], ◌∷◌, ◌++◌, append_assoc}
 use Prim.Native.Nat.{ℕ, ◌+◌, ◌*◌, ◌-◌, min, ◌≤◌, ◌<◌}
@@ -9,7 +10,7 @@ use lib.Dec.{eqb}
 use lib.ListN.{length, length-append}
 use Rattle.rules.specs.Text.{bytes_at, text_in, among}
 use Rattle.rules.specs.Value.{Value, call_text, value_width, well_formed_key}
-use Rattle.rules.specs.Answer.{refuse, ◌then◌, Detail}
+use Rattle.rules.specs.Answer.{Answer, ◌then◌}
 use Rattle.rules.specs.CallRecord.{Head, head_width, pair_width, Named, word, number, word_of, key_in, entry_in, named_in, read_pair}
 use Rattle.rules.specs.Parameters.{Parameter, positional_count}
 use Rattle.rules.specs.Lookup.{find}
@@ -19,15 +20,14 @@ use Rattle.builder.specs.Params.{parameters_in}
 use Rattle.builder.specs.declared.spec.ParametersSpec.{ParametersSpec}
 use Rattle.cells.proofs.LawsListed.{length_listed, listed_next, listed_more}
 use Rattle.calls.specs.Head.{Few, named_from, items_from, entries_from}
-use Rattle.lookup.specs.declared.Finding.{Finding}
 use Rattle.lookup.specs.Lookup.{finding_of}
 use Rattle.calls.proofs.LawsNamed.{key_inside}
 use Rattle.findings.specs.Resolved.{named_at, Resolved}
 use Rattle.findings.specs.Resolve.{Below, pairs_from, sources_after, rest_after, count_after}
-use Rattle.findings.specs.Entries.{Held, entered_at, entry_answer}
+use Rattle.findings.specs.Entries.{Held, entered_at, entry_refused, entry_answer}
 use Rattle.findings.specs.EntriesDone.{written_names, entry_at, entries_in, EntriesReady}
-use Rattle.findings.specs.declared.entries.Entered.{Entered}
-use Rattle.findings.specs.declared.entries.Entered.TheVariants.{Free}
+use Rattle.answers.specs.declared.answer.EntryRefusal.{EntryRefusal}
+use Rattle.answers.specs.declared.answer.EntryRefusal.TheVariants.{NotText, Repeated}
 use Rattle.findings.proofs.LawsResolved.{entered, entered_below}
 use Rattle.findings.proofs.LawsNames.{any_parameter, few_list}
 use Rattle.findings.proofs.LawsEntry.{entry_answer_lem, entry_free}
@@ -78,13 +78,18 @@ module _ (spec : List ℕ) (l : ParametersSpec) (cells area : List ℕ) (h : Hea
         (sym (entry_answer_lem spec l cells area ready.list P before sources rest count next upto r pair formed))
 
     -- a refused entry refuses the rest
-    pub asked_refused : (P : List Value) → next ≡ min (length P) (positional_count qs) → (e : Entered) → entered_at spec l area cells pair next sources rest count ≡ e → (n : ℕ) (d : Detail) → entry_answer e ≡ refuse n d
-        → ask_entries qs P before (entries_in area cells (entries_from h) k (h.d - k)) ≡ refuse n d
-    asked_refused P upto e is n d refused =
+    pub asked_refused : (P : List Value) → next ≡ min (length P) (positional_count qs) → (e : EntryRefusal) → entered_at spec l area cells pair next sources rest count ≡ Err e
+        → ask_entries qs P before (entries_in area cells (entries_from h) k (h.d - k)) ≡ entry_refused e
+    asked_refused P upto e is =
         asked_next P upto
-        ∙ ap (λ a. a then ask_entries qs P (before ++ word_of (key_in area (pair_at cells pair)) (named_at area cells pair).value) (entries_in area cells (entries_from h) (k + 1) (h.d - (k + 1)))) (ap entry_answer is ∙ refused)
+        ∙ ap (λ r. entry_answer r then ask_entries qs P (before ++ word_of (key_in area (pair_at cells pair)) (named_at area cells pair).value) (entries_in area cells (entries_from h) (k + 1) (h.d - (k + 1)))) is
+        ∙ first e _
+      where
+        first : (r : EntryRefusal) (b : Answer) → (entry_refused r then b) ≡ entry_refused r
+        first NotText b = refl
+        first (Repeated payload) b = refl
 
-    module _ (f : Finding) (free : entered_at spec l area cells pair next sources rest count ≡ Free f) where
+    module _ (f : Option ℕ) (free : entered_at spec l area cells pair next sources rest count ≡ Ok f) where
       facts : (eqb (pair_at cells pair).kind call_text ≡ true) × (finding_of f ≡ find qs (bytes_at area (pair_at cells pair).payload)) × (among (bytes_at area (pair_at cells pair).payload) (texts_of before) ≡ false)
       facts = entry_free spec l cells area ready.list ready.P before sources rest count next ready.upto r pair formed f free
 

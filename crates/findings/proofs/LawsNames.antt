@@ -1,6 +1,7 @@
 -- Laws of names resolved in a loop: what the code finds for a pair is what `rules` finds for its name, what is resolved says whether a pair's
 -- name is one of those before it, and one more turn resolves one more pair.
 -- Assumes nothing.
+use Rattle.std.specs.Prelude.{Option}
 use mathlib.Core.Path.{◌≡◌, refl, sym, ap, ap₂, subst, ◌∙◌}
 use mathlib.Core.Bool.{Bool, true, false, cond, not, true≢false}
 use mathlib.Core.List.{List, [], ◌∷◌, ◌++◌}
@@ -21,7 +22,6 @@ use Rattle.cells.specs.Listed.{listed}
 use Rattle.builder.specs.Params.{parameters_in}
 use Rattle.builder.specs.declared.spec.ParametersSpec.{ParametersSpec}
 use Rattle.cells.proofs.LawsListed.{length_listed, listed_next, listed_more}
-use Rattle.lookup.specs.declared.Finding.{Finding}
 use Rattle.lookup.specs.Lookup.{find_in, finding_of}
 use Rattle.lookup.proofs.LawsBuilt.{lookup_columns, one_fits}
 use Rattle.findings.specs.Resolved.{named_at, Resolved}
@@ -57,10 +57,10 @@ module _ (spec : List ℕ) (l : ParametersSpec) (cells area : List ℕ) (list : 
   pub found_is : (pair : ℕ) → inside area (pair_at cells pair).payload ≡ true → finding_of (found_at spec l area cells pair) ≡ find (parameters_in spec l.params) (named_at area cells pair).name.bytes
   unfolding found_in part_at named_at named_in text_in read_pair pair_at
   found_is pair e =
-      ap (λ b. finding_of (find_in spec l.params.codes l.params.styles l.params.names l.params.len (cond b (bytes_at area (pair_at cells pair).payload) []))) e
+      ap (λ b. finding_of (find_in spec l.params (cond b (bytes_at area (pair_at cells pair).payload) []))) e
       ∙ lookup_columns spec (bytes_at area (pair_at cells pair).payload) l.params list.is_list.room list.inside
 
-  pub one_each : OneEach spec l.params.codes l.params.styles l.params.names l.params.len
+  pub one_each : OneEach spec l.params
   one_each bytes = one_fits spec bytes l.params list.is_list.room list.inside list.apart
 
 -- ---- one more text after some of which none stands twice
@@ -98,7 +98,7 @@ module _ (spec : List ℕ) (l : ParametersSpec) (cells area : List ℕ) (from n 
   abbrev pair : ℕ
   pair = from + 4 * k
 
-  abbrev found : Finding
+  abbrev found : Option ℕ
   found = found_at spec l area cells pair
 
   -- the pairs before it

@@ -1,6 +1,7 @@
 -- Laws of names resolved one by one: nothing is resolved at first, a name that is found fills its slot, one that is not found joins the
 -- remainder.
 -- Assumes nothing.
+use Rattle.std.specs.Prelude.{Option as Found, Some, None}
 use mathlib.Core.Path.{◌≡◌, refl, sym, ap, ap₂, subst, ◌∙◌}
 use mathlib.Core.Bool.{Bool, true, false, cond, not, true≢false}
 use mathlib.Core.List.{List, [], ◌∷◌, ◌++◌, map, append-nil}
@@ -25,8 +26,6 @@ use Rattle.rules.specs.Text.{among}
 use Rattle.rules.specs.Binding.{texts_of}
 use Rattle.rules.proofs.LawsPlacement.{is_some, partner_some}
 use Rattle.rules.proofs.LawsFound.{is_at, is_found, known_found, names_at, or_else, partner_snoc, keep_snoc, among_named, among_unknown}
-use Rattle.lookup.specs.declared.Finding as Code
-use Rattle.lookup.specs.declared.Finding.TheVariants as code
 use Rattle.lookup.specs.Lookup.{finding_of}
 use Rattle.findings.specs.Resolved.{source_value, named_at, NamedPair, Resolved}
 use Rattle.findings.specs.Resolve.{Below, sources_after, rest_after, count_after}
@@ -154,9 +153,9 @@ module _ (qs : List Parameter) (cells area : List ℕ) (apart : names_apart [] q
       ∙ sym (among_named b (get_or qs i d) N (named_at_lem qs cells area apart b (at i) e i d (find_within qs b i e) ∙ eq-eqb i i refl))
 
   -- so a name stands among those before exactly where its slot has a source, or where the remainder has it
-  pub repeats_is : (f : Code.Finding) → finding_of f ≡ find qs b → (d : Parameter) → repeats_by f sources (held_names area cells rest count) b ≡ among b (texts_of N)
-  repeats_is (code.At i) e d = source_is cells (get_or sources i 0) ∙ source_among i d (sym e)
-  repeats_is code.Unknown e d = ap (λ vs. among b (texts_of vs)) (sym r.rest_is) ∙ sym (among_unknown qs b N (known_at qs cells area b unknown (sym e)))
+  pub repeats_is : (f : Found ℕ) → finding_of f ≡ find qs b → (d : Parameter) → repeats_by f sources (held_names area cells rest count) b ≡ among b (texts_of N)
+  repeats_is (Some i) e d = source_is cells (get_or sources i 0) ∙ source_among i d (sym e)
+  repeats_is None e d = ap (λ vs. among b (texts_of vs)) (sym r.rest_is) ∙ sym (among_unknown qs b N (known_at qs cells area b unknown (sym e)))
 
   pub source_free : (i : ℕ) (d : Parameter) → find qs b ≡ at i → among b (texts_of N) ≡ false → get_or sources i 0 ≡ 0
   source_free i d e f = go (get_or sources i 0) (source_among i d e ∙ f)
@@ -168,15 +167,15 @@ module _ (qs : List Parameter) (cells area : List ℕ) (apart : names_apart [] q
 -- ---- one more pair, by what the code finds
 
 module _ (qs : List Parameter) (cells area : List ℕ) (apart : names_apart [] qs ≡ true) (within : length qs ≤ 64) (N : List Named) (sources rest : List ℕ) (count pair : ℕ) where
-  pub entered : Resolved qs cells area N sources rest count → (f : Code.Finding) → finding_of f ≡ find qs (named_at area cells pair).name.bytes → among (named_at area cells pair).name.bytes (texts_of N) ≡ false → length N < 128 → NamedPair area cells pair → (d : Parameter)
+  pub entered : Resolved qs cells area N sources rest count → (f : Found ℕ) → finding_of f ≡ find qs (named_at area cells pair).name.bytes → among (named_at area cells pair).name.bytes (texts_of N) ≡ false → length N < 128 → NamedPair area cells pair → (d : Parameter)
       → Resolved qs cells area (N ++ (named_at area cells pair ∷ [])) (sources_after f pair sources) (rest_after f pair count rest) (count_after f count)
-  entered r (code.At i) e fresh few placed d =
+  entered r (Some i) e fresh few placed d =
       resolved_found qs cells area apart N sources rest count r pair i (sym e)
       (source_free qs cells area apart N sources rest count r (named_at area cells pair).name.bytes i d (sym e) fresh)
       (omega (arith, r.slots, find_within qs (named_at area cells pair).name.bytes i (sym e)))
-  entered r code.Unknown e fresh few placed d =
+  entered r None e fresh few placed d =
       resolved_unknown qs cells area apart N sources rest count r pair (sym e) (omega (arith, r.pairs, r.in_rest)) placed
 
-  pub entered_below : (f : Code.Finding) → finding_of f ≡ find qs (named_at area cells pair).name.bytes → Below 64 f
-  entered_below (code.At i) e = omega (arith, find_within qs (named_at area cells pair).name.bytes i (sym e))
-  entered_below code.Unknown e = tt
+  pub entered_below : (f : Found ℕ) → finding_of f ≡ find qs (named_at area cells pair).name.bytes → Below 64 f
+  entered_below (Some i) e = omega (arith, find_within qs (named_at area cells pair).name.bytes i (sym e))
+  entered_below None e = tt

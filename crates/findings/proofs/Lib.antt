@@ -1,4 +1,5 @@
 -- Laws of findings, by subject.
+pub mod LawsFirst
 pub mod LawsResolved
 pub mod LawsAsked
 pub mod LawsNames

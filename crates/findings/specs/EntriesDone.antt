@@ -1,20 +1,21 @@
 -- What resolving all the entries of a call needs and promises.
-use Rattle.std.specs.Prelude.{◌≡◌, true, List, ◌++◌, ℕ, ◌+◌, ◌*◌, min, ◌<◌, length, drop}
+use Rattle.std.specs.Prelude.{Result, Ok, Err, ◌≡◌, true, List, ◌++◌, ℕ, ◌+◌, ◌*◌, min, ◌<◌, length, drop}
 use Rattle.rules.specs.Value.{Value, well_formed_key}
-use Rattle.rules.specs.Answer.{Answer, fine, refuse, none, name, call_area}
+use Rattle.rules.specs.Answer.{Answer, fine}
 use Rattle.rules.specs.CallRecord.{Head, Named, Entry, read_pair, entry_in}
 use Rattle.rules.specs.Parameters.{positional_count}
 use Rattle.rules.specs.Binding.{ask_entries}
 use Rattle.cells.specs.Record.{pair_at}
 use Rattle.cells.specs.Listed.{listed}
 use Rattle.builder.specs.Params.{parameters_in}
+use Rattle.builder.specs.declared.params.Parameters.{Parameters}
+use Rattle.builder.specs.declared.spec.DefParamIndices.{DefParamIndices}
 use Rattle.builder.specs.declared.spec.ParametersSpec.{ParametersSpec}
 use Rattle.calls.specs.Head.{Few, named_from, entries_from}
-use Rattle.answers.specs.Answer.{place_of}
+use Rattle.answers.specs.declared.answer.EntryRefusal.{EntryRefusal}
 use Rattle.findings.specs.Resolved.{Resolved}
-use Rattle.findings.specs.Resolve.{Prepared, pairs_from, Others, lent_list}
-use Rattle.findings.specs.declared.entries.Entries.{Entries}
-use Rattle.findings.specs.declared.entries.Entries.TheVariants.{All, NotText, Repeated}
+use Rattle.findings.specs.Entries.{entry_refused}
+use Rattle.findings.specs.Resolve.{Prepared, pairs_from, lent_list}
 
 -- the written names of a call, and its entries from the k-th on
 abbrev pub written_names : List ℕ → List ℕ → Head → List Named
@@ -27,10 +28,9 @@ abbrev pub entries_in : List ℕ → List ℕ → ℕ → ℕ → ℕ → List E
 entries_in area cells from k count = listed (λ j. entry_at area cells (from + 4 * j)) k count
 
 -- 01's number and detail for the answer of all the entries
-abbrev pub entries_answer : Entries → Answer
-entries_answer (All count) = fine
-entries_answer NotText = refuse 18 none
-entries_answer (Repeated payload) = refuse 19 (name (place_of call_area payload))
+abbrev pub entries_answer : Result ℕ EntryRefusal → Answer
+entries_answer (Ok count) = fine
+entries_answer (Err e) = entry_refused e
 
 pub record EntriesReady (spec : List ℕ) (l : ParametersSpec) (cells area : List ℕ) (h : Head) (next : ℕ) (sources rest : List ℕ) (count : ℕ) : Type 0 where
   pub list : Prepared spec l
@@ -41,20 +41,20 @@ pub record EntriesReady (spec : List ℕ) (l : ParametersSpec) (cells area : Lis
   pub written : Resolved (parameters_in spec l.params) cells area (written_names area cells h) sources rest count
 
 -- the answer is that of 18 and 19, entry by entry, and without a refusal every name of N is resolved
-pub record EntriesDone (spec : List ℕ) (l : ParametersSpec) (cells area : List ℕ) (h : Head) (next : ℕ) (sources rest : List ℕ) (r : Entries) : Type 0 where
+pub record EntriesDone (spec : List ℕ) (l : ParametersSpec) (cells area : List ℕ) (h : Head) (next : ℕ) (sources rest : List ℕ) (r : Result ℕ EntryRefusal) : Type 0 where
   pub answer
       : (P : List Value) → next ≡ min (length P) (positional_count (parameters_in spec l.params))
       → entries_answer r ≡ ask_entries (parameters_in spec l.params) P (written_names area cells h) (entries_in area cells (entries_from h) 0 h.d)
   pub resolved
-      : (count : ℕ) → r ≡ All count
+      : (count : ℕ) → r ≡ Ok count
       → Resolved (parameters_in spec l.params) cells area (written_names area cells h ++ pairs_from area cells (entries_from h) h.d) sources rest count
 
--- the same against columns that are lent: they are those of such a list, and what is promised holds of each such list that has them
-pub record EntriesLent (spec codes styles names : List ℕ) (len : ℕ) (cells area : List ℕ) (h : Head) (next : ℕ) (sources rest : List ℕ) (count : ℕ) : Type 0 where
-  pub others : Others
-  pub ready : EntriesReady spec (lent_list codes styles names len others) cells area h next sources rest count
+-- the same against parameters that are lent: they are those of such a list, and what is promised holds of each such list that has them
+pub record EntriesLent (spec : List ℕ) (p : Parameters) (cells area : List ℕ) (h : Head) (next : ℕ) (sources rest : List ℕ) (count : ℕ) : Type 0 where
+  pub indices : DefParamIndices
+  pub ready : EntriesReady spec (lent_list p indices) cells area h next sources rest count
 
-abbrev pub EntriesResolved : (spec codes styles names : List ℕ) (len : ℕ) (cells area : List ℕ) (h : Head) (next : ℕ) (sources rest : List ℕ) (count : ℕ) (sources₁ rest₁ : List ℕ) (r : Entries) → Type 0
-EntriesResolved spec codes styles names len cells area h next sources rest count sources₁ rest₁ r =
-    (o : Others) → EntriesReady spec (lent_list codes styles names len o) cells area h next sources rest count
-    → EntriesDone spec (lent_list codes styles names len o) cells area h next sources₁ rest₁ r
+abbrev pub EntriesResolved : (spec : List ℕ) (p : Parameters) (cells area : List ℕ) (h : Head) (next : ℕ) (sources rest : List ℕ) (count : ℕ) (sources₁ rest₁ : List ℕ) (r : Result ℕ EntryRefusal) → Type 0
+EntriesResolved spec p cells area h next sources rest count sources₁ rest₁ r =
+    (o : DefParamIndices) → EntriesReady spec (lent_list p o) cells area h next sources rest count
+    → EntriesDone spec (lent_list p o) cells area h next sources₁ rest₁ r

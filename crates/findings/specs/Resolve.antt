@@ -1,5 +1,5 @@
 -- What resolving a name finds and keeps.
-use Rattle.std.specs.Prelude.{◌≡◌, true, false, List, [], ℕ, ◌+◌, ◌*◌, ◌<◌, ◌≤◌, length, set}
+use Rattle.std.specs.Prelude.{Option, Some, None, Result, Ok, Err, ◌≡◌, true, false, List, [], ℕ, ◌+◌, ◌*◌, ◌<◌, ◌≤◌, length, set}
 use Rattle.rules.specs.Listing.{all}
 use Rattle.rules.specs.Text.{differ}
 use Rattle.rules.specs.CallRecord.{Named}
@@ -9,45 +9,44 @@ use Rattle.rules.specs.Passed.{positional_first, names_apart, name_inside}
 use Rattle.cells.specs.Text.{part_at}
 use Rattle.cells.specs.Record.{pair_at}
 use Rattle.cells.specs.Listed.{listed}
+use Rattle.cells.specs.declared.question.Question.{Question}
+use Rattle.cells.specs.declared.question.Question.TheVariants.{RepeatedName}
 use Rattle.builder.specs.Params.{parameters_in}
 use Rattle.builder.specs.Build.{IsList}
+use Rattle.builder.specs.declared.params.Parameters.{Parameters}
 use Rattle.builder.specs.declared.spec.DefParamIndices.{DefParamIndices}
 use Rattle.builder.specs.declared.spec.ParametersSpec.{ParametersSpec}
-use Rattle.lookup.specs.declared.Finding.{Finding}
-use Rattle.lookup.specs.declared.Finding.TheVariants.{At, Unknown}
 use Rattle.lookup.specs.Lookup.{find_in, OneFits}
 use Rattle.findings.specs.Resolved.{named_at, NamedPair, Resolved}
-use Rattle.findings.specs.declared.resolve.Names.{Names}
-use Rattle.findings.specs.declared.resolve.Names.TheVariants.{All, Repeated}
 
--- the parameter that the pair at a cell names, by the columns
-unfoldable pub found_in : List ℕ → List ℕ → List ℕ → List ℕ → ℕ → List ℕ → List ℕ → ℕ → Finding
-found_in spec codes styles names len area cells pair = find_in spec codes styles names len (part_at area (pair_at cells pair).payload)
+-- the parameter that the pair at a cell names
+unfoldable pub found_in : List ℕ → Parameters → List ℕ → List ℕ → ℕ → Option ℕ
+found_in spec p area cells pair = find_in spec p (part_at area (pair_at cells pair).payload)
 
 -- the same by the list
-abbrev pub found_at : List ℕ → ParametersSpec → List ℕ → List ℕ → ℕ → Finding
-found_at spec l area cells pair = found_in spec l.params.codes l.params.styles l.params.names l.params.len area cells pair
+abbrev pub found_at : List ℕ → ParametersSpec → List ℕ → List ℕ → ℕ → Option ℕ
+found_at spec l area cells pair = found_in spec l.params area cells pair
 
--- no two parameters of the columns have one name
-abbrev pub OneEach : List ℕ → List ℕ → List ℕ → List ℕ → ℕ → Type 0
-OneEach spec codes styles names len = (bytes : List ℕ) → OneFits spec codes styles names len bytes
+-- no two parameters have one name
+abbrev pub OneEach : List ℕ → Parameters → Type 0
+OneEach spec p = (bytes : List ℕ) → OneFits spec p bytes
 
 -- an index that is found is below n
-abbrev pub Below : ℕ → Finding → Type 0
-Below n (At i) = i < n
-Below n Unknown = Unit
+abbrev pub Below : ℕ → Option ℕ → Type 0
+Below n (Some i) = i < n
+Below n None = Unit
 
-abbrev pub sources_after : Finding → ℕ → List ℕ → List ℕ
-sources_after (At i) pair sources = set sources i (pair + 2)
-sources_after Unknown pair sources = sources
+abbrev pub sources_after : Option ℕ → ℕ → List ℕ → List ℕ
+sources_after (Some i) pair sources = set sources i (pair + 2)
+sources_after None pair sources = sources
 
-abbrev pub rest_after : Finding → ℕ → ℕ → List ℕ → List ℕ
-rest_after (At i) pair count rest = rest
-rest_after Unknown pair count rest = set rest count pair
+abbrev pub rest_after : Option ℕ → ℕ → ℕ → List ℕ → List ℕ
+rest_after (Some i) pair count rest = rest
+rest_after None pair count rest = set rest count pair
 
-abbrev pub count_after : Finding → ℕ → ℕ
-count_after (At i) count = count
-count_after Unknown count = count + 1
+abbrev pub count_after : Option ℕ → ℕ → ℕ
+count_after (Some i) count = count
+count_after None count = count + 1
 
 -- a list of the code that binding can lean on: it is the list that its columns are, and that list is one that passes 1 to 7
 pub record Prepared (area : List ℕ) (l : ParametersSpec) : Type 0 where
@@ -56,19 +55,9 @@ pub record Prepared (area : List ℕ) (l : ParametersSpec) : Type 0 where
   pub apart : names_apart [] (parameters_in area l.params) ≡ true
   pub inside : all (name_inside area) (parameters_in area l.params) ≡ true
 
--- what goes with the columns that names are looked up in, to make a list: defaults, counts and indices
-pub record Others : Type 0 where
-  pub kinds : List ℕ
-  pub payloads : List ℕ
-  pub indices : DefParamIndices
-
--- the list whose columns are lent
-abbrev pub lent_list : List ℕ → List ℕ → List ℕ → ℕ → Others → ParametersSpec
-lent_list codes styles names len o =
-    record {
-      params = record { codes = codes; styles = styles; names = names; default_kinds = o.kinds; default_payloads = o.payloads; len = len };
-      indices = o.indices;
-    }
+-- the list whose parameters are lent
+abbrev pub lent_list : Parameters → DefParamIndices → ParametersSpec
+lent_list p indices = record { params = p; indices = indices }
 
 -- the named values of `count` pairs from a cell on
 abbrev pub pairs_from : List ℕ → List ℕ → ℕ → ℕ → List Named
@@ -87,18 +76,18 @@ pub record Naming (spec : List ℕ) (l : ParametersSpec) (cells area : List ℕ)
   pub pairs : Pairs area cells from count
   pub empty : Resolved (parameters_in spec l.params) cells area [] sources rest 0
 
--- the same against columns that are lent: they are those of such a list
-pub record NamesLent (spec codes styles names : List ℕ) (len : ℕ) (cells area : List ℕ) (from count : ℕ) (sources rest : List ℕ) : Type 0 where
-  pub others : Others
-  pub naming : Naming spec (lent_list codes styles names len others) cells area from count sources rest
+-- the same against parameters that are lent: they are those of such a list
+pub record NamesLent (spec : List ℕ) (p : Parameters) (cells area : List ℕ) (from count : ℕ) (sources rest : List ℕ) : Type 0 where
+  pub indices : DefParamIndices
+  pub naming : Naming spec (lent_list p indices) cells area from count sources rest
 
 -- the answer is that of 13, and without a refusal the names are resolved
-pub record NamesEnd (qs : List Parameter) (cells area : List ℕ) (written : List Named) (sources rest : List ℕ) (r : Names) : Type 0 where
-  pub all : (count : ℕ) → r ≡ All count → (differ (texts_of written) ≡ true) × Resolved qs cells area written sources rest count
-  pub repeated : r ≡ Repeated → differ (texts_of written) ≡ false
+pub record NamesEnd (qs : List Parameter) (cells area : List ℕ) (written : List Named) (sources rest : List ℕ) (r : Result ℕ Question) : Type 0 where
+  pub all : (count : ℕ) → r ≡ Ok count → (differ (texts_of written) ≡ true) × Resolved qs cells area written sources rest count
+  pub repeated : (q : Question) → r ≡ Err q → (q ≡ RepeatedName) × (differ (texts_of written) ≡ false)
 
--- what is promised holds of each such list that has these columns
-abbrev pub NamesResolved : (spec codes styles names : List ℕ) (len : ℕ) (cells area : List ℕ) (from count : ℕ) (sources rest sources₁ rest₁ : List ℕ) (r : Names) → Type 0
-NamesResolved spec codes styles names len cells area from count sources rest sources₁ rest₁ r =
-    (o : Others) → Naming spec (lent_list codes styles names len o) cells area from count sources rest
-    → NamesEnd (parameters_in spec (lent_list codes styles names len o).params) cells area (pairs_from area cells from count) sources₁ rest₁ r
+-- what is promised holds of each such list that has these parameters
+abbrev pub NamesResolved : (spec : List ℕ) (p : Parameters) (cells area : List ℕ) (from count : ℕ) (sources rest sources₁ rest₁ : List ℕ) (r : Result ℕ Question) → Type 0
+NamesResolved spec p cells area from count sources rest sources₁ rest₁ r =
+    (o : DefParamIndices) → Naming spec (lent_list p o) cells area from count sources rest
+    → NamesEnd (parameters_in spec p) cells area (pairs_from area cells from count) sources₁ rest₁ r

@@ -9,30 +9,19 @@ ghost use Rattle.findings.specs.EntriesDone.{EntriesLent, EntriesResolved};
 ghost use Rattle.calls.specs.Head.{head_of};
 
 use crate::resolve::{NAMED, behind, enter};
-use builder::params::CAPACITY;
+use answers::answer::EntryRefusal;
+use builder::params::Parameters;
 use calls::head::{Head, PAIR, entries_from};
 use cells::record::{key_at, pair_at};
 use cells::text::{part, same};
-use cells::value::ReadKey;
-use lookup::{Finding, find_from};
+use cells::value::Key;
+use lookup::find_from;
 
-// What resolving all the entries answers: how many pairs the remainder then has, or the first refusal.
-#[derive(Drop)]
-pub enum Entries {
-    All(usize),
-    // 18
-    NotText,
-    // 19: the key
-    Repeated(u64),
-}
-
-// All the entries, after the written names. `near` is where the first is looked for first.
-pub fn resolve_entries<'a>(
-    spec: &'a [u8],
-    codes: &'a [u8; CAPACITY],
-    styles: &'a [u8; CAPACITY],
-    names: &'a [u64; CAPACITY],
-    len: usize,
+// All the entries, after the written names: how many pairs the remainder then has, or the first refusal. `near` is where the first is looked
+// for first.
+pub fn resolve_entries(
+    params: &Parameters,
+    spec: &[u8],
     cells: &[u64],
     area: &[u8],
     h: Head,
@@ -41,53 +30,28 @@ pub fn resolve_entries<'a>(
     sources: &mut [usize; 64],
     rest: &mut [usize; NAMED],
     before: usize,
-) -> Entries
-    requires { EntriesLent spec.now codes.now styles.now names.now len cells.now area.now (head_of h) next sources.old rest.old before }
-    ensures { EntriesResolved spec.now codes.now styles.now names.now len cells.now area.now (head_of h) next sources.old rest.old before sources.new rest.new result }
+) -> Result<usize, EntryRefusal>
+    requires { EntriesLent spec.now params.now cells.now area.now (head_of h) next sources.old rest.old before }
+    ensures { EntriesResolved spec.now params.now cells.now area.now (head_of h) next sources.old rest.old before sources.new rest.new result }
 {
     let from = entries_from(h);
     let mut guess = near;
     let mut count = before;
-    let mut k = 0;
-    while k < h.d {
+    for k in 0..h.d {
         let pair = from + PAIR * k;
-        let entered = entry_at(
-            spec, codes, styles, names, len, cells, area, pair, guess, next, sources, rest, count,
-        );
-        match entered {
-            Entered::NotText => {
-                return Entries::NotText;
-            }
-            Entered::Repeated(payload) => {
-                return Entries::Repeated(payload);
-            }
-            Entered::Free(found) => {
-                guess = behind(found, guess);
-                count = enter(found, pair, sources, rest, count);
-            }
-        }
-        k += 1;
+        let found = entry_at(
+            params, spec, cells, area, pair, guess, next, sources, rest, count,
+        )?;
+        guess = behind(found, guess);
+        count = enter(found, pair, sources, rest, count);
     }
-    Entries::All(count)
+    Ok(count)
 }
 
-// What 18 and 19 answer for one entry: the parameter that it may fill, or the refusal.
-#[derive(Drop)]
-pub enum Entered {
-    Free(Finding),
-    // 18
-    NotText,
-    // 19: the key
-    Repeated(u64),
-}
-
-// 18 and 19 of the entry at a cell. The search starts at `near`.
-pub fn entry_at<'a>(
-    spec: &'a [u8],
-    codes: &'a [u8; CAPACITY],
-    styles: &'a [u8; CAPACITY],
-    names: &'a [u64; CAPACITY],
-    len: usize,
+// 18 and 19 of the entry at a cell: the parameter that it may fill, or the refusal. The search starts at `near`.
+pub fn entry_at(
+    params: &Parameters,
+    spec: &[u8],
     cells: &[u64],
     area: &[u8],
     pair: usize,
@@ -96,17 +60,14 @@ pub fn entry_at<'a>(
     sources: &[usize; 64],
     rest: &[usize; NAMED],
     count: usize,
-) -> Entered
-    requires { Held area.now cells.now rest.now count × OneEach spec.now codes.now styles.now names.now len }
-    ensures { result ≡ entered_in spec.now codes.now styles.now names.now len area.now cells.now pair next sources.now rest.now count }
+) -> Result<Option<usize>, EntryRefusal>
+    requires { Held area.now cells.now rest.now count × OneEach spec.now params.now }
+    ensures { result ≡ entered_in spec.now params.now area.now cells.now pair next sources.now rest.now count }
 {
     match key_at(area, cells, pair) {
-        ReadKey::Word(t) => word_at(
+        Some(Key::Word(t)) => word_at(
+            params,
             spec,
-            codes,
-            styles,
-            names,
-            len,
             cells,
             area,
             t.payload(),
@@ -116,18 +77,14 @@ pub fn entry_at<'a>(
             rest,
             count,
         ),
-        ReadKey::Number(_) => Entered::NotText,
-        ReadKey::Not => Entered::NotText,
+        _ => Err(EntryRefusal::NotText),
     }
 }
 
 // 19 of an entry whose key is the text of this payload.
-fn word_at<'a>(
-    spec: &'a [u8],
-    codes: &'a [u8; CAPACITY],
-    styles: &'a [u8; CAPACITY],
-    names: &'a [u64; CAPACITY],
-    len: usize,
+fn word_at(
+    params: &Parameters,
+    spec: &[u8],
     cells: &[u64],
     area: &[u8],
     payload: u64,
@@ -136,21 +93,21 @@ fn word_at<'a>(
     sources: &[usize; 64],
     rest: &[usize; NAMED],
     count: usize,
-) -> Entered
-    requires { Held area.now cells.now rest.now count × OneEach spec.now codes.now styles.now names.now len }
-    ensures { result ≡ word_in spec.now codes.now styles.now names.now len area.now cells.now next sources.now rest.now count payload }
+) -> Result<Option<usize>, EntryRefusal>
+    requires { Held area.now cells.now rest.now count × OneEach spec.now params.now }
+    ensures { result ≡ word_in spec.now params.now area.now cells.now next sources.now rest.now count payload }
 {
     let name = part(area, payload);
-    let found = find_from(spec, codes, styles, names, len, near, name);
+    let found = find_from(params, spec, near, name);
     if is_taken(found, cells, area, next, sources, rest, count, name) {
-        return Entered::Repeated(payload);
+        return Err(EntryRefusal::Repeated(payload));
     }
-    Entered::Free(found)
+    Ok(found)
 }
 
 // Is what was found taken: a slot that a value of P or an earlier name fills, or a name that the remainder has already?
 fn is_taken(
-    found: Finding,
+    found: Option<usize>,
     cells: &[u64],
     area: &[u8],
     next: usize,
@@ -163,13 +120,8 @@ fn is_taken(
     ensures { result ≡ taken_by found next sources.now (held_names area.now cells.now rest.now count) name.now }
 {
     match found {
-        Finding::At(i) => {
-            if i < next {
-                return true;
-            }
-            sources[i] != 0
-        }
-        Finding::Unknown => in_rest(cells, area, rest, count, name),
+        Some(i) => i < next || sources[i] != 0,
+        None => in_rest(cells, area, rest, count, name),
     }
 }
 
@@ -178,13 +130,5 @@ pub fn in_rest(cells: &[u64], area: &[u8], rest: &[usize; NAMED], count: usize, 
     requires { Held area.now cells.now rest.now count }
     ensures { result ≡ among name.now (texts_of (held_names area.now cells.now rest.now count)) }
 {
-    let mut k = 0;
-    while k < count {
-        let key = pair_at(cells, rest[k]);
-        if same(name, part(area, key.payload)) {
-            return true;
-        }
-        k += 1;
-    }
-    false
+    rest[..count].iter().any(|pair| same(name, part(area, pair_at(cells, *pair).payload)))
 }

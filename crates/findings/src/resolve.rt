@@ -8,62 +8,49 @@ ghost use Rattle.findings.specs.Resolve.{Below, OneEach, found_in, sources_after
 ghost use Rattle.findings.specs.Entries.{Held, held_names, repeats_by};
 
 use crate::entries::in_rest;
-use builder::params::CAPACITY;
+use builder::params::Parameters;
+use cells::question::Question;
 use cells::record::pair_at;
 use cells::text::part;
-use lookup::{Finding, find_from, find_near};
+use lookup::{find_from, find_near};
 
 // The pairs of N, at most 64 written and 64 entries.
 pub const NAMED: usize = 128;
 
-// The parameter that the pair at a cell names, by the list's columns, lent: none of them is copied for a name. The search starts at `near`.
-pub fn found_at<'a>(
-    spec: &'a [u8],
-    codes: &'a [u8; CAPACITY],
-    styles: &'a [u8; CAPACITY],
-    names: &'a [u64; CAPACITY],
-    len: usize,
+// The parameter that the pair at a cell names. The search starts at `near`.
+pub fn found_at(
+    params: &Parameters,
+    spec: &[u8],
     cells: &[u64],
     area: &[u8],
     pair: usize,
     near: usize,
-) -> Finding
-    requires { OneEach spec.now codes.now styles.now names.now len }
-    ensures { result ≡ found_in spec.now codes.now styles.now names.now len area.now cells.now pair }
+) -> Option<usize>
+    requires { OneEach spec.now params.now }
+    ensures { result ≡ found_in spec.now params.now area.now cells.now pair }
 {
     let key = pair_at(cells, pair);
-    find_from(
-        spec,
-        codes,
-        styles,
-        names,
-        len,
-        near,
-        part(area, key.payload),
-    )
+    find_from(params, spec, near, part(area, key.payload))
 }
 
 // The same of a pair that is there, with the guess tried first. Called from one loop alone, so that the compiler makes it part of the loop.
-fn found_near<'a>(
-    spec: &'a [u8],
-    codes: &'a [u8; CAPACITY],
-    styles: &'a [u8; CAPACITY],
-    names: &'a [u64; CAPACITY],
-    len: usize,
+fn found_near(
+    params: &Parameters,
+    spec: &[u8],
     cells: &[u64],
     area: &[u8],
     pair: usize,
     near: usize,
-) -> Finding
-    requires { OneEach spec.now codes.now styles.now names.now len × (pair + 1 < length cells.now) }
-    ensures { result ≡ found_in spec.now codes.now styles.now names.now len area.now cells.now pair }
+) -> Option<usize>
+    requires { OneEach spec.now params.now × (pair + 1 < length cells.now) }
+    ensures { result ≡ found_in spec.now params.now area.now cells.now pair }
 {
-    find_near(spec, codes, styles, names, len, near, area, cells[pair + 1])
+    find_near(params, spec, near, area, cells[pair + 1])
 }
 
 // The pair's value fills the slot that is found, or the pair joins the remainder. How many pairs the remainder then has.
 pub fn enter(
-    found: Finding,
+    found: Option<usize>,
     pair: usize,
     sources: &mut [usize; 64],
     rest: &mut [usize; NAMED],
@@ -75,11 +62,11 @@ pub fn enter(
     ensures rest { rest.new ≡ rest_after found pair count rest.old }
 {
     match found {
-        Finding::At(i) => {
+        Some(i) => {
             sources[i] = pair + 2;
             count
         }
-        Finding::Unknown => {
+        None => {
             rest[count] = pair;
             count + 1
         }
@@ -87,18 +74,18 @@ pub fn enter(
 }
 
 // Where to look first for the next name: behind the parameter that was found, or where it was looked for this time.
-pub fn behind(found: Finding, near: usize) -> usize
+pub fn behind(found: Option<usize>, near: usize) -> usize
     requires { Below 64 found }
 {
     match found {
-        Finding::At(i) => i + 1,
-        Finding::Unknown => near,
+        Some(i) => i + 1,
+        None => near,
     }
 }
 
 // Is the name at a pair one of those that are resolved? One that is found has filled its slot; one that is not is in the remainder.
 fn repeats(
-    found: Finding,
+    found: Option<usize>,
     cells: &[u64],
     area: &[u8],
     pair: usize,
@@ -110,29 +97,19 @@ fn repeats(
     ensures { result ≡ repeats_by found sources.now (held_names area.now cells.now rest.now count) (part_at area.now (pair_at cells.now pair).payload) }
 {
     match found {
-        Finding::At(i) => sources[i] != 0,
-        Finding::Unknown => {
+        Some(i) => sources[i] != 0,
+        None => {
             let key = pair_at(cells, pair);
             in_rest(cells, area, rest, count, part(area, key.payload))
         }
     }
 }
 
-// What resolving the written names answers: how many pairs the remainder then has, or that a name stands twice.
-#[derive(Drop)]
-pub enum Names {
-    All(usize),
-    // 13
-    Repeated,
-}
-
-// The written names, up to the first that stands twice. `near` is where the first is looked for first.
-pub fn resolve_names<'a>(
-    spec: &'a [u8],
-    codes: &'a [u8; CAPACITY],
-    styles: &'a [u8; CAPACITY],
-    names: &'a [u64; CAPACITY],
-    len: usize,
+// The written names, up to the first that stands twice (13): how many pairs the remainder then has. `near` is where the first is looked for
+// first.
+pub fn resolve_names(
+    params: &Parameters,
+    spec: &[u8],
     cells: &[u64],
     area: &[u8],
     from: usize,
@@ -140,22 +117,20 @@ pub fn resolve_names<'a>(
     near: usize,
     sources: &mut [usize; 64],
     rest: &mut [usize; NAMED],
-) -> Names
-    requires { NamesLent spec.now codes.now styles.now names.now len cells.now area.now from n sources.old rest.old }
-    ensures { NamesResolved spec.now codes.now styles.now names.now len cells.now area.now from n sources.old rest.old sources.new rest.new result }
+) -> Result<usize, Question>
+    requires { NamesLent spec.now params.now cells.now area.now from n sources.old rest.old }
+    ensures { NamesResolved spec.now params.now cells.now area.now from n sources.old rest.old sources.new rest.new result }
 {
     let mut guess = near;
     let mut count = 0;
-    let mut k = 0;
-    while k < n {
+    for k in 0..n {
         let pair = from + 4 * k;
-        let found = found_near(spec, codes, styles, names, len, cells, area, pair, guess);
+        let found = found_near(params, spec, cells, area, pair, guess);
         if repeats(found, cells, area, pair, sources, rest, count) {
-            return Names::Repeated;
+            return Err(Question::RepeatedName);
         }
         guess = behind(found, guess);
         count = enter(found, pair, sources, rest, count);
-        k += 1;
     }
-    Names::All(count)
+    Ok(count)
 }

@@ -13,9 +13,7 @@ use Rattle.rules.specs.SheetOutput.{Bound, no_room, wrote}
 use Rattle.rules.specs.Window.{Window, refused_window, exceeded_at, never_exceeded}
 use Rattle.sheets.specs.Read.{Reading, no_room as no_space, bad_line, held}
 use Rattle.prepared.specs.Prepared.{prepared_length, prepared_from}
-use Rattle.prepared.specs.Bind.{preparation_of, cells_after}
-use Rattle.prepared.specs.declared.Preparation.{Preparation}
-use Rattle.prepared.specs.declared.Preparation.TheVariants.{Written, Refused, NoRoom}
+use Rattle.prepared.specs.Bind.{Preparation, laid_out, unlisted, too_few, preparation_of, cells_after}
 
 -- the area of a name: 1 the spec area, 2 the call area
 abbrev pub area_number : Area → ℕ
@@ -41,9 +39,9 @@ outcome_answer (accepted c board) = value_answer c.taken c.defaulted c.star c.na
 
 -- preparing: how many cells were written, or 101 for too few
 abbrev pub preparation_answer : Preparation → List ℕ
-preparation_answer (Written n) = value_answer n 0 0 0
-preparation_answer (Refused n) = refusal_answer n none
-preparation_answer NoRoom = refusal_answer 101 none
+preparation_answer (laid_out n) = value_answer n 0 0 0
+preparation_answer (unlisted n) = refusal_answer n none
+preparation_answer too_few = refusal_answer 101 none
 
 -- 1 to 7 of the record, then the room; the lent cells change only where a list is written
 unfoldable pub preparing_answer : List ℕ → List ℕ → List ℕ → List ℕ

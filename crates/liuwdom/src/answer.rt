@@ -1,28 +1,31 @@
 // The answer of an exported function: what each answer of the code says in the eight cells of a lent array.
 ghost use Rattle.std.specs.Prelude.{◌≡◌, List, [], ◌∷◌, ℕ};
 ghost use Rattle.rules.specs.Text.{start_of, size_of};
-ghost use Rattle.answers.specs.Answer.{told};
+ghost use Rattle.rules.specs.Answer.{none};
+ghost use Rattle.cells.specs.Question.{number_of};
+ghost use Rattle.answers.specs.Answer.{told, refusal_number, refusal_detail};
 ghost use Rattle.accessors.specs.Answer as accessors;
 ghost use Rattle.printer.specs.Printed as printer;
 ghost use Rattle.can_fill.specs.CanFill.{filling_in};
 ghost use Rattle.lookup.specs.Lookup.{finding_of};
-ghost use Rattle.prepared.specs.Bind.{told_by};
+ghost use Rattle.prepared.specs.Bind.{preparation_in, told_by};
 ghost use Rattle.reader.specs.Parser.{read_of};
 ghost use Rattle.sheets.specs.Bind.{bound_of};
 ghost use Rattle.sheets.specs.Read.{reading_of};
 ghost use Rattle.window.specs.Exceeded.{window_in};
-ghost use Rattle.liuwdom.specs.Answer.{Says, outcome_answer, preparation_answer, filling_answer, access_answer, finding_answer, read_answer, bound_answer, reading_answer, window_answer};
+ghost use Rattle.liuwdom.specs.Answer.{Says, value_answer, refusal_answer, outcome_answer, preparation_answer, filling_answer, access_answer, finding_answer, read_answer, bound_answer, reading_answer, window_answer};
 ghost use Rattle.liuwdom.specs.Told.{told_cells};
 
-use accessors::answer::Accessed;
-use answers::answer::Collected;
-use can_fill::CanFill;
-use lookup::Finding;
-use prepared::{Preparation, PreparedBound};
-use printer::Printed;
-use reader::Next;
-use sheets::{Bound, SheetsRead};
-use window::Exceeded;
+use accessors::answer::FunctionError;
+use answers::answer::{Counts, Refusal};
+use cells::question::Question;
+use cells::value::Pair;
+use prepared::{PreparedRefusal, Unprepared};
+use reader::ReadError;
+use sheet_judge::BadLine;
+use sheets::records::Records;
+use sheets::{NoRoom, Unread};
+use window::OutOfRange;
 
 // A name in a detail stands in no area, in the spec area or in the call area.
 const NOWHERE: u64 = 0;
@@ -103,127 +106,144 @@ fn named(number: u64, area: u64, name: u64, count: u64) -> Told
     }
 }
 
-pub fn collected(r: Collected) -> Told
+// A refusal of collection.
+fn refusal(r: Refusal) -> Told
+    ensures { told_cells result ≡ refusal_answer (refusal_number r) (refusal_detail r) }
+{
+    match r {
+        Refusal::Record(question) => refused(question),
+        Refusal::ArgsArrayIsNotIterable => plain(15, 0, 0, 0, 0),
+        Refusal::RepeatedParameter(name) => named(16, SPEC, name, 0),
+        Refusal::KwArgsIsNotDict => plain(17, 0, 0, 0, 0),
+        Refusal::ArgsValueIsNotString => plain(18, 0, 0, 0, 0),
+        Refusal::RepeatedArg(name) => named(19, CALL, name, 0),
+        Refusal::MissingPositionalOnly(name) => named(20, SPEC, name, 0),
+        Refusal::Missing(name) => named(21, SPEC, name, 0),
+        Refusal::MissingNamedOnly(name) => named(22, SPEC, name, 0),
+        Refusal::ExtraPositionalArg(count) => plain(23, count as u64, 0, 0, 0),
+        Refusal::ExtraNamedArg(count, name) => named(24, CALL, name, count as u64),
+    }
+}
+
+// A question's, which has no detail.
+pub fn refused(question: Question) -> Told
+    ensures { told_cells result ≡ refusal_answer (number_of question) none }
+{
+    plain(question.number(), 0, 0, 0, 0)
+}
+
+// The four counts of an accepted call.
+fn counted(c: Counts) -> Told
+    ensures { told_cells result ≡ value_answer c.taken c.defaulted c.star c.named }
+{
+    plain(
+        0,
+        c.taken as u64,
+        c.defaulted as u64,
+        c.star as u64,
+        c.named as u64,
+    )
+}
+
+pub fn collected(r: Result<Counts, Refusal>) -> Told
     ensures { (board : List ℕ) → told_cells result ≡ outcome_answer (told r board) }
 {
     match r {
-        Collected::Accepted(c) => plain(
-            0,
-            c.taken as u64,
-            c.defaulted as u64,
-            c.star as u64,
-            c.named as u64,
-        ),
-        Collected::Record(question) => plain(question, 0, 0, 0, 0),
-        Collected::ArgsArrayIsNotIterable => plain(15, 0, 0, 0, 0),
-        Collected::RepeatedParameter(name) => named(16, SPEC, name, 0),
-        Collected::KwArgsIsNotDict => plain(17, 0, 0, 0, 0),
-        Collected::ArgsValueIsNotString => plain(18, 0, 0, 0, 0),
-        Collected::RepeatedArg(name) => named(19, CALL, name, 0),
-        Collected::MissingPositionalOnly(name) => named(20, SPEC, name, 0),
-        Collected::Missing(name) => named(21, SPEC, name, 0),
-        Collected::MissingNamedOnly(name) => named(22, SPEC, name, 0),
-        Collected::ExtraPositionalArg(count) => plain(23, count as u64, 0, 0, 0),
-        Collected::ExtraNamedArg(count, name) => named(24, CALL, name, count as u64),
+        Ok(c) => counted(c),
+        Err(r) => refusal(r),
     }
 }
 
-pub fn prepared(r: Preparation) -> Told
-    ensures { told_cells result ≡ preparation_answer r }
+pub fn prepared(r: Result<usize, Unprepared>) -> Told
+    ensures { told_cells result ≡ preparation_answer (preparation_in r) }
 {
     match r {
-        Preparation::Written(cells) => plain(0, cells as u64, 0, 0, 0),
-        Preparation::Refused(question) => plain(question, 0, 0, 0, 0),
-        Preparation::NoRoom => plain(NO_ROOM, 0, 0, 0, 0),
+        Ok(cells) => plain(0, cells as u64, 0, 0, 0),
+        Err(Unprepared::List(question)) => refused(question),
+        Err(Unprepared::NoRoom) => plain(NO_ROOM, 0, 0, 0, 0),
     }
 }
 
-pub fn prepared_bound(r: PreparedBound) -> Told
+pub fn prepared_bound(r: Result<Counts, PreparedRefusal>) -> Told
     ensures { (board : List ℕ) → told_cells result ≡ outcome_answer (told_by r board) }
 {
     match r {
-        PreparedBound::NotPrepared => plain(NOT_PREPARED, 0, 0, 0, 0),
-        PreparedBound::Bound(ended) => collected(ended),
+        Ok(c) => counted(c),
+        Err(PreparedRefusal::NotPrepared) => plain(NOT_PREPARED, 0, 0, 0, 0),
+        Err(PreparedRefusal::Call(r)) => refusal(r),
     }
 }
 
-pub fn filled(r: CanFill) -> Told
+pub fn filled(r: Result<bool, Question>) -> Told
     ensures { told_cells result ≡ filling_answer (filling_in r) }
 {
     match r {
-        CanFill::Refused(question) => plain(question, 0, 0, 0, 0),
-        CanFill::Answer(yes) => plain(0, yes as u64, 0, 0, 0),
+        Ok(yes) => plain(0, yes as u64, 0, 0, 0),
+        Err(question) => refused(question),
     }
 }
 
-pub fn accessed(r: Accessed) -> Told
+pub fn accessed(r: Result<usize, FunctionError>) -> Told
     ensures { told_cells result ≡ access_answer (accessors.access_in r) }
 {
     match r {
-        Accessed::Answered(number) => plain(0, number as u64, 0, 0, 0),
-        Accessed::Record(question) => plain(question, 0, 0, 0, 0),
-        Accessed::ArgsArrayIsNotIterable => plain(15, 0, 0, 0, 0),
-        Accessed::KwArgsIsNotDict => plain(17, 0, 0, 0, 0),
-        Accessed::ArgsValueIsNotString => plain(18, 0, 0, 0, 0),
-        Accessed::RepeatedArg(name) => named(19, CALL, name, 0),
-        Accessed::ExtraNamedArg(count, name) => named(24, CALL, name, count as u64),
-        Accessed::WrongNumberOfArgs(least, most, got) => {
+        Ok(number) => plain(0, number as u64, 0, 0, 0),
+        Err(FunctionError::Record(question)) => refused(question),
+        Err(FunctionError::ArgsArrayIsNotIterable) => plain(15, 0, 0, 0, 0),
+        Err(FunctionError::KwArgsIsNotDict) => plain(17, 0, 0, 0, 0),
+        Err(FunctionError::ArgsValueIsNotString) => plain(18, 0, 0, 0, 0),
+        Err(FunctionError::RepeatedArg(name)) => named(19, CALL, name, 0),
+        Err(FunctionError::ExtraNamedArg(count, name)) => named(24, CALL, name, count as u64),
+        Err(FunctionError::WrongNumberOfArgs(least, most, got)) => {
             plain(26, least as u64, most as u64, got as u64, 0)
         }
     }
 }
 
-pub fn printed(r: Printed) -> Told
+pub fn printed(r: Result<usize, Question>) -> Told
     ensures { told_cells result ≡ access_answer (printer.access_in r) }
 {
     match r {
-        Printed::Length(bytes) => plain(0, bytes as u64, 0, 0, 0),
-        Printed::Refused(question) => plain(question, 0, 0, 0, 0),
+        Ok(bytes) => plain(0, bytes as u64, 0, 0, 0),
+        Err(question) => refused(question),
     }
 }
 
-// A list that is refused.
-pub fn refused(question: u64) -> Told
-    ensures { told_cells result ≡ question ∷ 0 ∷ 0 ∷ 0 ∷ 0 ∷ 0 ∷ 0 ∷ 0 ∷ [] }
-{
-    plain(question, 0, 0, 0, 0)
-}
-
-pub fn found(r: Finding) -> Told
+pub fn found(r: Option<usize>) -> Told
     ensures { told_cells result ≡ finding_answer (finding_of r) }
 {
     match r {
-        Finding::At(index) => plain(0, 1, index as u64, 0, 0),
-        Finding::Unknown => plain(0, 0, 0, 0, 0),
+        Some(index) => plain(0, 1, index as u64, 0, 0),
+        None => plain(0, 0, 0, 0, 0),
     }
 }
 
 // What a read answers, and the position after it.
-pub fn read(r: Next, after: usize) -> Told
+pub fn read(r: Result<Option<Pair>, ReadError>, after: usize) -> Told
     ensures { told_cells result ≡ read_answer (read_of r) after }
 {
     match r {
-        Next::Value(pair) => plain(0, pair.kind, pair.payload, after as u64, 0),
-        Next::Empty => plain(0, 0, 0, after as u64, 0),
-        Next::NoMore => plain(27, 0, 0, after as u64, 0),
-        Next::Unfilled => plain(28, 0, 0, after as u64, 0),
+        Ok(Some(pair)) => plain(0, pair.kind, pair.payload, after as u64, 0),
+        Ok(None) => plain(0, 0, 0, after as u64, 0),
+        Err(ReadError::NoMore) => plain(27, 0, 0, after as u64, 0),
+        Err(ReadError::Unfilled) => plain(28, 0, 0, after as u64, 0),
     }
 }
 
-pub fn bound(r: Bound) -> Told
+pub fn bound(r: Result<usize, NoRoom>) -> Told
     ensures { told_cells result ≡ bound_answer (bound_of r) }
 {
     match r {
-        Bound::Written(bytes) => plain(0, bytes as u64, 0, 0, 0),
-        Bound::NoRoom => plain(NO_ROOM, 0, 0, 0, 0),
+        Ok(bytes) => plain(0, bytes as u64, 0, 0, 0),
+        Err(NoRoom) => plain(NO_ROOM, 0, 0, 0, 0),
     }
 }
 
-pub fn sheets_read(r: SheetsRead) -> Told
+pub fn sheets_read(r: Result<Records, Unread>) -> Told
     ensures { told_cells result ≡ reading_answer (reading_of r) }
 {
     match r {
-        SheetsRead::Records(records) => {
+        Ok(records) => {
             let list = records.spec;
             let given = records.call;
             plain(
@@ -234,17 +254,17 @@ pub fn sheets_read(r: SheetsRead) -> Told
                 given.bytes as u64,
             )
         }
-        SheetsRead::Bad(line) => plain(BAD_SHEET, line as u64, 0, 0, 0),
-        SheetsRead::NoRoom => plain(NO_ROOM, 0, 0, 0, 0),
+        Err(Unread::Bad(BadLine(line))) => plain(BAD_SHEET, line as u64, 0, 0, 0),
+        Err(Unread::NoRoom) => plain(NO_ROOM, 0, 0, 0, 0),
     }
 }
 
-pub fn exceeded(r: Exceeded) -> Told
+pub fn exceeded(r: Result<Option<usize>, OutOfRange>) -> Told
     ensures { told_cells result ≡ window_answer (window_in r) }
 {
     match r {
-        Exceeded::At(position) => plain(0, 1, position as u64, 0, 0),
-        Exceeded::Never => plain(0, 0, 0, 0, 0),
-        Exceeded::OutOfRange => plain(BAD_WINDOW, 0, 0, 0, 0),
+        Ok(Some(position)) => plain(0, 1, position as u64, 0, 0),
+        Ok(None) => plain(0, 0, 0, 0, 0),
+        Err(OutOfRange) => plain(BAD_WINDOW, 0, 0, 0, 0),
     }
 }

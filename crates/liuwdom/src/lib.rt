@@ -29,7 +29,6 @@ use answer::{
 };
 use builder::build;
 use can_fill::can_fill_with_args;
-use cells::answer::Answer;
 use collector::collect::collect;
 use lookup::get_str;
 use prepared::{bind_prepared, prepare};
@@ -110,12 +109,11 @@ pub extern "C" fn liuwdom_lookup(
 ) -> u64
     ensures { Says (lookup_answer spec_cells.now spec.now name.now) answer.new result }
 {
-    let built = build(spec_cells, spec);
-    let listed = built.answer;
-    if let Answer::Refused(question) = listed {
-        return refused(question).write(answer);
-    }
-    found(get_str(built.list, spec, name)).write(answer)
+    let told = match build(spec_cells, spec) {
+        Ok(list) => found(get_str(&list, spec, name)),
+        Err(question) => refused(question),
+    };
+    told.write(answer)
 }
 
 // N, as pairs.
@@ -241,8 +239,7 @@ pub extern "C" fn liuwdom_read_next(slots: &[u64], at: usize, answer: &mut [u64;
     ensures { Says (read_answer (read_needed (left_at slots.now at)) (position_after slots.now at)) answer.new result }
 {
     let reading = read_next(slots, at);
-    let next = reading.next;
-    read(next, reading.at).write(answer)
+    read(reading.next, reading.at).write(answer)
 }
 
 // An optional value.
@@ -251,8 +248,7 @@ pub extern "C" fn liuwdom_read_next_opt(slots: &[u64], at: usize, answer: &mut [
     ensures { Says (read_answer (read_optional (left_at slots.now at)) (position_after slots.now at)) answer.new result }
 {
     let reading = read_next_opt(slots, at);
-    let next = reading.next;
-    read(next, reading.at).write(answer)
+    read(reading.next, reading.at).write(answer)
 }
 
 // Whether no slot is left.

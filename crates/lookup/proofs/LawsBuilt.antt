@@ -3,6 +3,7 @@
 -- of its parameters have one name, a name fits one of them at the most (`one_fits`).
 -- Before them: a candidate fits where `rules` says that the bytes name it, and so does the first.
 -- Assumes nothing.
+use Rattle.std.specs.Prelude.{Option, Some, None, Result, Ok}
 use mathlib.Core.Path.{◌≡◌, refl, sym, ap, ◌∙◌}
 use mathlib.Core.Bool.{Bool, true, false, cond, not, ◌&&◌, ◌||◌, false≢true}
 use mathlib.Core.List.{List, []}
@@ -22,15 +23,12 @@ use Rattle.rules.proofs.LawsFound.{is_at, names_at as names-at-index}
 use Rattle.cells.proofs.LawsListed.{length_listed, all_at, get_d_listed}
 use Rattle.rules.proofs.LawsParameters.{list_name_inside}
 use Rattle.builder.specs.declared.params.Parameters.{Parameters}
-use Rattle.cells.specs.declared.answer.Answer.TheVariants.{Fine}
-use Rattle.builder.specs.declared.Finished.{Finished}
+use Rattle.cells.specs.declared.question.Question.{Question}
+use Rattle.builder.specs.declared.spec.ParametersSpec.{ParametersSpec}
 use Rattle.cells.specs.Listed.{listed}
 use Rattle.builder.specs.Params.{may_be_named, parameter_of, parameter_at, parameters_in}
-use Rattle.cells.specs.Answer.{answer_of}
-use Rattle.builder.specs.Build.{Building}
+use Rattle.builder.specs.Build.{asked_of, Building}
 use Rattle.builder.proofs.LawsParams.{nameable_at, names_at}
-use Rattle.lookup.specs.declared.Finding.{Finding}
-use Rattle.lookup.specs.declared.Finding.TheVariants.{At, Unknown}
 use Rattle.lookup.specs.Lookup.{finding_of, fits, fits_at, first_at, find_in, OneFits}
 
 -- ---- the first that fits
@@ -44,7 +42,7 @@ module _ (area bytes : List ℕ) (p : Parameters) where
 
   fits_names
       : (i : ℕ) → name_inside area (parameter_at area p i) ≡ true
-      → fits_at area p.codes p.styles p.names bytes i ≡ names bytes (parameter_at area p i)
+      → fits_at area p bytes i ≡ names bytes (parameter_at area p i)
   unfolding fits_at fits name_inside
   fits_names i e =
       go (may_be_named (get_or p.codes i 0) (get_or p.styles i 0)) (inside area (get_or p.names i 0))
@@ -59,15 +57,15 @@ module _ (area bytes : List ℕ) (p : Parameters) where
 
   first_names
       : (i n : ℕ) → all (name_inside area) (listed (parameter_at area p) i n) ≡ true
-      → finding_of (first_at (fits_at area p.codes p.styles p.names bytes) i n) ≡ find_from i (listed (parameter_at area p) i n) bytes
+      → finding_of (first_at (fits_at area p bytes) i n) ≡ find_from i (listed (parameter_at area p) i n) bytes
   first_names i zero e = refl
   first_names i (suc n) e =
       rw (fits_names i (and_left (name_inside area (parameter_at area p i)) (all (name_inside area) (listed (parameter_at area p) (suc i) n)) e))
       (go (names bytes (parameter_at area p i)) (first_names (suc i) n (and_right (name_inside area (parameter_at area p i)) (all (name_inside area) (listed (parameter_at area p) (suc i) n)) e)))
     where
       go : (b : Bool)
-          → finding_of (first_at (fits_at area p.codes p.styles p.names bytes) (suc i) n) ≡ find_from (suc i) (listed (parameter_at area p) (suc i) n) bytes
-          → finding_of (cond b (At i) (first_at (fits_at area p.codes p.styles p.names bytes) (suc i) n))
+          → finding_of (first_at (fits_at area p bytes) (suc i) n) ≡ find_from (suc i) (listed (parameter_at area p) (suc i) n) bytes
+          → finding_of (cond b (Some i) (first_at (fits_at area p bytes) (suc i) n))
           ≡ cond b (Rattle.rules.specs.Lookup.at i) (find_from (suc i) (listed (parameter_at area p) (suc i) n) bytes)
       go true r = refl
       go false r = r
@@ -75,7 +73,7 @@ module _ (area bytes : List ℕ) (p : Parameters) where
   -- a lookup in columns whose nameable names lie inside the area is one in the list that they are
   pub lookup_columns
       : p.len ≤ 64 → all (name_inside area) (parameters_in area p) ≡ true
-      → finding_of (find_in area p.codes p.styles p.names p.len bytes) ≡ find (parameters_in area p) bytes
+      → finding_of (find_in area p bytes) ≡ find (parameters_in area p) bytes
   unfolding find_in find parameters_in
   lookup_columns room e =
       let m : min p.len 64 ≡ p.len = omega arith in
@@ -84,9 +82,9 @@ module _ (area bytes : List ℕ) (p : Parameters) where
   -- where no two of its parameters have one name, whichever a name fits is what is found
   pub one_fits
       : p.len ≤ 64 → all (name_inside area) (parameters_in area p) ≡ true → names_apart [] (parameters_in area p) ≡ true
-      → OneFits area p.codes p.styles p.names p.len bytes
+      → OneFits area p bytes
   unfolding parameters_in find
-  one_fits room e apart i below f = found (find_in area p.codes p.styles p.names p.len bytes) (lookup_columns room e)
+  one_fits room e apart i below f = found (find_in area p bytes) (lookup_columns room e)
     where
       qs : List Parameter
       qs = listed (parameter_at area p) 0 p.len
@@ -105,16 +103,15 @@ module _ (area bytes : List ℕ) (p : Parameters) where
           ∙ sym (fits_names i (sym (ap (name_inside area) here) ∙ all_at (name_inside area) qs i (parameter_at area p 0) (omega (arith, size)) e))
           ∙ f
 
-      found : (g : Finding) → finding_of g ≡ find_from 0 qs bytes → g ≡ At i
-      found (At k) q = ap At (eqb-true k i (ap (is_at i) q ∙ named))
-      found Unknown q = absurd (false≢true (ap (is_at i) q ∙ named))
+      found : (g : Option ℕ) → finding_of g ≡ find_from 0 qs bytes → g ≡ Some i
+      found (Some k) q = ap Some (eqb-true k i (ap (is_at i) q ∙ named))
+      found None q = absurd (false≢true (ap (is_at i) q ∙ named))
 
 -- a lookup in a list that is built is a lookup in the list that the record describes
 pub lookup_built
-    : (cells area bytes : List ℕ) (r : Finished) → Building cells area r → r.answer ≡ Fine
-    → finding_of (find_in area r.list.params.codes r.list.params.styles r.list.params.names r.list.params.len bytes)
-    ≡ find (list_of cells area) bytes
-lookup_built cells area bytes r b e =
-    let is = b.fine e in
-    lookup_columns area bytes r.list.params is.room (rw is.parameters (list_name_inside 64 cells area (sym b.answer ∙ ap answer_of e)))
+    : (cells area bytes : List ℕ) (r : Result ParametersSpec Question) → Building cells area r → (l : ParametersSpec) → r ≡ Ok l
+    → finding_of (find_in area l.params bytes) ≡ find (list_of cells area) bytes
+lookup_built cells area bytes r b l e =
+    let is = b.fine l e in
+    lookup_columns area bytes l.params is.room (rw is.parameters (list_name_inside 64 cells area (sym b.answer ∙ ap asked_of e)))
     ∙ ap (λ qs. find qs bytes) is.parameters

@@ -1,5 +1,6 @@
 -- Laws of a search for a name, in this order: the first index that passes a test, as a loop asks for it; a run of indices in two parts; the
--- columns searched from a guess on; what each test on a candidate says; the bytes left to compare. Assumes nothing.
+-- parameters searched from a guess on; what each test on a candidate says; the bytes left to compare. Assumes nothing.
+use Rattle.std.specs.Prelude.{Some, None}
 use mathlib.Core.Path.{◌≡◌, refl, sym, ap, ◌∙◌}
 use mathlib.Core.Bool.{Bool, true, false, cond, ◌&&◌, and-false}
 use mathlib.Core.List.{List}
@@ -16,13 +17,13 @@ use Rattle.rules.proofs.LawsListing.{and_right}
 use Rattle.cells.specs.Text.{part_at, ShortSame}
 use Rattle.cells.proofs.LawsText.{same_bytes_length, same_bytes_differs, same_bytes_next}
 use Rattle.builder.specs.Params.{may_be_named}
-use Rattle.lookup.specs.declared.Finding.TheVariants.{At, Unknown}
+use Rattle.builder.specs.declared.params.Parameters.{Parameters}
 use Rattle.lookup.specs.Lookup.{fits, fits_at, first_at, find_in, OneFits}
 
 -- ---- from index i on, of n
 
 module _ (test : ℕ → Bool) (i n : ℕ) where
-  pub first_at_hit : i < n → test i ≡ true → first_at test i (n - i) ≡ At i
+  pub first_at_hit : i < n → test i ≡ true → first_at test i (n - i) ≡ Some i
   first_at_hit h e =
       let m : n - i ≡ suc (n - (i + 1)) = omega arith in
       rw (m, e)
@@ -32,7 +33,7 @@ module _ (test : ℕ → Bool) (i n : ℕ) where
       let m : n - i ≡ suc (n - (i + 1)) = omega arith in
       rw (m, e, add-one)
 
-  pub first_at_end : n ≤ i → first_at test i (n - i) ≡ Unknown
+  pub first_at_end : n ≤ i → first_at test i (n - i) ≡ None
   first_at_end h =
       let m : n - i ≡ 0 = omega arith in
       rw m
@@ -40,21 +41,21 @@ module _ (test : ℕ → Bool) (i n : ℕ) where
 -- ---- a run of indices in two parts
 
 -- what is found is an index of the run, and passes
-pub first_at_passes : (test : ℕ → Bool) (i n k : ℕ) → first_at test i n ≡ At k → (k < i + n) × (test k ≡ true)
+pub first_at_passes : (test : ℕ → Bool) (i n k : ℕ) → first_at test i n ≡ Some k → (k < i + n) × (test k ≡ true)
 first_at_passes test i zero k e = let z : ◌≡◌ {A = ℕ} 0 1 = cc in absurd (omega arith)
 first_at_passes test i (suc n) k e = go (test i) refl (first_at_passes test (suc i) n k)
   where
-    go : (b : Bool) → test i ≡ b → (first_at test (suc i) n ≡ At k → (k < suc i + n) × (test k ≡ true)) → (k < i + suc n) × (test k ≡ true)
+    go : (b : Bool) → test i ≡ b → (first_at test (suc i) n ≡ Some k → (k < suc i + n) × (test k ≡ true)) → (k < i + suc n) × (test k ≡ true)
     go true p later =
-        let same : At i ≡ At k = sym (ap (λ b. cond b (At i) (first_at test (suc i) n)) p) ∙ e in
+        let same : Some i ≡ Some k = sym (ap (λ b. cond b (Some i) (first_at test (suc i) n)) p) ∙ e in
         let here : i ≡ k = cc in
         (omega (arith, here), ap test (sym here) ∙ p)
     go false p later =
-        let behind = later (sym (ap (λ b. cond b (At i) (first_at test (suc i) n)) p) ∙ e) in
+        let behind = later (sym (ap (λ b. cond b (Some i) (first_at test (suc i) n)) p) ∙ e) in
         (omega (arith, behind.0), behind.1)
 
 -- where none of the second part passes, what is found is found in the first
-pub first_at_front : (test : ℕ → Bool) (i a b : ℕ) → first_at test (i + a) b ≡ Unknown → first_at test i (a + b) ≡ first_at test i a
+pub first_at_front : (test : ℕ → Bool) (i a b : ℕ) → first_at test (i + a) b ≡ None → first_at test i (a + b) ≡ first_at test i a
 first_at_front test i zero b e =
     let z : i + 0 ≡ i = omega arith in
     let w : 0 + b ≡ b = omega arith in
@@ -62,25 +63,25 @@ first_at_front test i zero b e =
 first_at_front test i (suc a) b e =
     let z : i + suc a ≡ suc i + a = omega arith in
     let w : suc a + b ≡ suc (a + b) = omega arith in
-    rw w (ap (λ f. cond (test i) (At i) f) (first_at_front test (suc i) a b (rw z at e)))
+    rw w (ap (λ f. cond (test i) (Some i) f) (first_at_front test (suc i) a b (rw z at e)))
 
--- ---- the columns searched from a guess on
+-- ---- the parameters searched from a guess on
 
-module _ (area codes styles names : List ℕ) (len : ℕ) (bytes : List ℕ) (count : ℕ) (held : count ≡ min len 64) where
+module _ (area : List ℕ) (p : Parameters) (bytes : List ℕ) (count : ℕ) (held : count ≡ min p.len 64) where
   abbrev test : ℕ → Bool
-  test = fits_at area codes styles names bytes
+  test = fits_at area p bytes
 
-  pub find_whole : first_at test 0 (count - 0) ≡ find_in area codes styles names len bytes
+  pub find_whole : first_at test 0 (count - 0) ≡ find_in area p bytes
   unfolding find_in
   find_whole = ap (first_at test 0) (sub-zero count ∙ held)
 
   module _ (near : ℕ) (below : near < count) where
-    pub find_later : OneFits area codes styles names len bytes → (k : ℕ) → first_at test near (count - near) ≡ At k → At k ≡ find_in area codes styles names len bytes
+    pub find_later : OneFits area p bytes → (k : ℕ) → first_at test near (count - near) ≡ Some k → Some k ≡ find_in area p bytes
     find_later one k e =
         let passes = first_at_passes test near (count - near) k e in
         sym (one k (omega (arith, passes.0, held)) passes.1)
 
-    pub find_earlier : first_at test near (count - near) ≡ Unknown → first_at test 0 (near - 0) ≡ find_in area codes styles names len bytes
+    pub find_earlier : first_at test near (count - near) ≡ None → first_at test 0 (near - 0) ≡ find_in area p bytes
     find_earlier e =
         let whole : near + (count - near) ≡ count - 0 = omega arith in
         let start : 0 + near ≡ near = omega arith in

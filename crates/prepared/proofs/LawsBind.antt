@@ -1,8 +1,9 @@
 -- Laws of binding against cells that are a prepared list, in this order: what holds of the list that they spell; the list in the builder's
 -- columns is one that binding can lean on; how the call ends, which one answer tells. Assumes nothing.
 use mathlib.Core.Path.{◌≡◌, refl, sym, ap, ◌∙◌}
-use mathlib.Core.Bool.{Bool, true, false, not, cond, ◌&&◌, ◌||◌, false≢true}
+use mathlib.Core.Bool.{Bool, true, false, not, cond, ◌&&◌, ◌||◌}
 use mathlib.Core.List.{List, [], ◌∷◌, map}
+use Rattle.std.specs.Prelude.{Result, Ok, Err}
 use Prim.Native.Nat.{ℕ, zero, suc, ◌+◌, ◌*◌, ◌≤◌, ◌<◌}
 use native.Mathlib.Nat.{zero-add}
 use native.Mathlib.Decide.{dec_le}
@@ -16,7 +17,7 @@ use Rattle.rules.specs.Value.{Value}
 use Rattle.rules.specs.Parameters.{Act, adds, slash, bare_star, unknown_code, act, act_of, plain, takes_name, positional, nameable, next_style, rank}
 use Rattle.rules.specs.ParameterQuestions.{has_name, step_name}
 use Rattle.rules.specs.Answer.{none}
-use Rattle.rules.specs.Collection.{Outcome, refused}
+use Rattle.rules.specs.Collection.{Outcome, refused, accepted}
 use Rattle.rules.specs.Passed.{positional_first, names_apart, name_inside}
 use Rattle.rules.proofs.LawsListing.{and_left, and_right, and_both}
 use Rattle.cells.proofs.LawsListed.{length_listed, get_d_listed}
@@ -25,16 +26,17 @@ use Rattle.builder.specs.Build.{IsList}
 use Rattle.builder.specs.declared.spec.ParametersSpec.{ParametersSpec}
 use Rattle.builder.proofs.LawsCodes.{code_3, code_4}
 use Rattle.findings.specs.Resolve.{Prepared}
-use Rattle.answers.specs.Answer.{is_numbered, told}
-use Rattle.answers.specs.declared.answer.Collected.{Collected}
+use Rattle.answers.specs.Answer.{told}
+use Rattle.answers.specs.declared.answer.Counts.{Counts}
+use Rattle.answers.specs.declared.answer.Refusal.{Refusal}
 use Rattle.answers.proofs.LawsTold.{answer_from, told_back, told_one}
 use Rattle.collector.specs.Collect.{Ends, bound_to}
 use Rattle.prepared.specs.Prepared.{Row, rows_in, list_in, parameter_of_row, row_right, rows_right, is_prepared, prepared_length, front_width, row_width, bound_prepared}
 use Rattle.prepared.specs.Rows.{row_at, stands, Whole, Narrow, Keyed}
 use Rattle.prepared.specs.Load.{by_position}
-use Rattle.prepared.specs.Bind.{numbered_by, told_by, EndsBound}
-use Rattle.prepared.specs.declared.PreparedBound.{PreparedBound}
-use Rattle.prepared.specs.declared.PreparedBound.TheVariants.{NotPrepared, Bound}
+use Rattle.prepared.specs.Bind.{told_by, EndsBound}
+use Rattle.prepared.specs.declared.PreparedRefusal.{PreparedRefusal}
+use Rattle.prepared.specs.declared.PreparedRefusal.TheVariants.{NotPrepared, Call}
 use Rattle.prepared.proofs.LawsRows.{never, stands_0, stands_4, cells_at, row_at_cells, rows_listed}
 use Rattle.prepared.proofs.LawsCheck.{right_name, right_stands, right_style, rows_keyed}
 use Rattle.prepared.proofs.LawsLoad.{by_0, by_3, by_4, row_position}
@@ -155,9 +157,6 @@ stands_small code style v t = split (dec_le 8 code)
 
 -- ---- cells that are a prepared list
 
-bound_ends : (o : Outcome) (before after : List ℕ) (r : Collected) → Ends o before after r → EndsBound o before after (Bound r)
-bound_ends o before after r e = record { answer = e.answer; numbered = e.numbered; board = e.board }
-
 module _ (area cells : List ℕ) (t : is_prepared area cells ≡ true) where
   abbrev few : Bool
   few = leb (get_or cells 0 0) 64
@@ -232,24 +231,44 @@ module _ (area cells : List ℕ) (t : is_prepared area cells ≡ true) where
           inside = rw is.parameters (rows_inside area 0 (rows_in cells) rows_hold);
         }
 
-  pub prepared_ends : (call_cells call_bytes before after : List ℕ) (r : Collected) → Ends (bound_to (list_in area cells) call_cells call_bytes before) before after r
-      → EndsBound (bound_prepared area cells call_cells call_bytes before) before after (Bound r)
-  unfolding bound_prepared
-  prepared_ends call_cells call_bytes before after r e = rw t (bound_ends (bound_to (list_in area cells) call_cells call_bytes before) before after r e)
+  module _ (call_cells call_bytes before after : List ℕ) where
+    pub prepared_counts : (c : Counts) → Ends (bound_to (list_in area cells) call_cells call_bytes before) before after (Ok c)
+        → EndsBound (bound_prepared area cells call_cells call_bytes before) before after (Ok c)
+    unfolding bound_prepared
+    prepared_counts c e = rw t (record { answer = e.answer; numbered = e.numbered; board = e.board })
 
-pub unprepared_ends : (area cells call_cells call_bytes before : List ℕ) → is_prepared area cells ≡ false → EndsBound (bound_prepared area cells call_cells call_bytes before) before before NotPrepared
+    pub prepared_refused : (r : Refusal) → Ends (bound_to (list_in area cells) call_cells call_bytes before) before after (Err r)
+        → EndsBound (bound_prepared area cells call_cells call_bytes before) before after (Err (Call r))
+    unfolding bound_prepared
+    prepared_refused r e = rw t (record { answer = e.answer; numbered = e.numbered; board = e.board })
+
+pub unprepared_ends : (area cells call_cells call_bytes before : List ℕ) → is_prepared area cells ≡ false → EndsBound (bound_prepared area cells call_cells call_bytes before) before before (Err NotPrepared)
 unfolding bound_prepared
 unprepared_ends area cells call_cells call_bytes before t = rw t (record { answer = refl; numbered = refl; board = refl })
 
 -- ---- one answer
 
+abbrev number_in : Outcome → ℕ
+number_in (refused n d) = n
+number_in (accepted c after) = 0
+
 -- collection has no answer for 100
-bound_other : (r : Collected) (after : List ℕ) → is_numbered r ≡ true → told r after ≡ refused 100 none → ⊥
-bound_other r after n e = false≢true (sym (ap is_numbered (sym (told_back r after n) ∙ ap answer_from e)) ∙ n)
+bound_other : (r : Result Counts Refusal) (after : List ℕ) → told r after ≡ refused 100 none → ⊥
+bound_other r after e = absurd (omega (arith, ap number_in (sym e ∙ ap (λ x. told x after) (sym (told_back r after) ∙ ap answer_from e))))
+
+-- a call's answer, as that of binding against lent cells
+abbrev bound_by : Result Counts Refusal → Result Counts PreparedRefusal
+bound_by (Ok c) = Ok c
+bound_by (Err r) = Err (Call r)
 
 -- two answers that tell the same are the same
-pub bound_one : (r r' : PreparedBound) (after after' : List ℕ) → numbered_by r ≡ true → numbered_by r' ≡ true → told_by r after ≡ told_by r' after' → r ≡ r'
-bound_one NotPrepared NotPrepared after after' n n' e = refl
-bound_one NotPrepared (Bound r') after after' n n' e = absurd (bound_other r' after' n' (sym e))
-bound_one (Bound r) NotPrepared after after' n n' e = absurd (bound_other r after n e)
-bound_one (Bound r) (Bound r') after after' n n' e = ap Bound (told_one r r' after after' n n' e)
+pub bound_one : (r r' : Result Counts PreparedRefusal) (after after' : List ℕ) → told_by r after ≡ told_by r' after' → r ≡ r'
+bound_one (Ok c) (Ok c') after after' e = ap bound_by (told_one (Ok c) (Ok c') after after' e)
+bound_one (Ok c) (Err NotPrepared) after after' e = absurd (bound_other (Ok c) after e)
+bound_one (Ok c) (Err (Call r')) after after' e = ap bound_by (told_one (Ok c) (Err r') after after' e)
+bound_one (Err NotPrepared) (Ok c') after after' e = absurd (bound_other (Ok c') after' (sym e))
+bound_one (Err NotPrepared) (Err NotPrepared) after after' e = refl
+bound_one (Err NotPrepared) (Err (Call r')) after after' e = absurd (bound_other (Err r') after' (sym e))
+bound_one (Err (Call r)) (Ok c') after after' e = ap bound_by (told_one (Err r) (Ok c') after after' e)
+bound_one (Err (Call r)) (Err NotPrepared) after after' e = absurd (bound_other (Err r) after e)
+bound_one (Err (Call r)) (Err (Call r')) after after' e = ap bound_by (told_one (Err r) (Err r') after after' e)

@@ -8,7 +8,7 @@ use native.Mathlib.Decide.{dec_le}
 use native.Mathlib.Omega.{arith}
 use lib.Dec.{ltb, leb, eqb}
 use lib.ListN.{length, get_or}
-use borrow.Author.Tests.{ltb-true, eqb-true, le-leb, lt-leb, not-true, not-false}
+use borrow.Author.Tests.{ltb-true, eqb-true, le-leb, lt-leb}
 use Rattle.rules.specs.Text.{bytes_at, is_text, inside}
 use Rattle.rules.specs.Value.{no_value}
 use Rattle.rules.specs.Parameters.{Parameter, nameable, required, optional, defaulted, args, kwargs, Act, adds, slash, bare_star, unknown_code, act, act_of, may_stand, next_style, rank, plain, takes_name}
@@ -17,7 +17,7 @@ use Rattle.rules.specs.Lookup.{known}
 use Rattle.rules.specs.Passed.{names_apart}
 use Rattle.rules.proofs.LawsListing.{and_left, and_right}
 use Rattle.cells.specs.Listed.{listed}
-use Rattle.cells.proofs.LawsListed.{listed_next, listed_end, listed_more}
+use Rattle.cells.proofs.LawsListed.{listed_next, listed_more}
 use Rattle.builder.specs.Params.{style_for, kind_for, may_be_named}
 use Rattle.builder.proofs.LawsParams.{plain_any}
 use Rattle.calls.proofs.LawsKeys.{text_inside}
@@ -80,9 +80,6 @@ module _ (area : List ℕ) (r : Row) (t : row_right area r ≡ true) where
 -- ---- a loop over the rows: what is left to ask from row i on
 
 module _ (area cells : List ℕ) (n i least : ℕ) {whole : Bool} (left : whole ≡ rows_right area least (listed (row_at cells) i (n - i))) where
-  pub rows_end : n ≤ i → true ≡ whole
-  rows_end h = sym (left ∙ ap (rows_right area least) (listed_end (row_at cells) i n h))
-
   module _ (h : i < n) {r : Row} (er : r ≡ row_at cells i) where
     parts : (a b : Bool) → a ≡ leb least r.style → b ≡ row_right area r
         → whole ≡ (a && b && rows_right area (rank (next_style (style_for r.style) (act r.step))) (listed (row_at cells) (i + 1) (n - (i + 1))))
@@ -92,11 +89,11 @@ module _ (area cells : List ℕ) (n i least : ℕ) {whole : Bool} (left : whole 
     rows_style s = sym (parts false (row_right area r) (sym (lt-leb least r.style s)) refl)
 
     module _ (s : least ≤ r.style) {a : Bool} (ea : a ≡ row_right area r) where
-      pub rows_row : not a ≡ true → false ≡ whole
-      rows_row k = sym (parts true false (sym (le-leb least r.style s)) (sym (not-true a k) ∙ ea))
+      pub rows_row : a ≡ false → false ≡ whole
+      rows_row k = sym (parts true false (sym (le-leb least r.style s)) (sym k ∙ ea))
 
-      pub rows_next : not a ≡ false → (next : ℕ) → next ≡ rank (next_style (style_for r.style) (act r.step)) → whole ≡ rows_right area next (listed (row_at cells) (i + 1) (n - (i + 1)))
-      rows_next k next en = rw en (parts true true (sym (le-leb least r.style s)) (sym (not-false a k) ∙ ea))
+      pub rows_next : a ≡ true → (next : ℕ) → next ≡ rank (next_style (style_for r.style) (act r.step)) → whole ≡ rows_right area next (listed (row_at cells) (i + 1) (n - (i + 1)))
+      rows_next k next en = rw en (parts true true (sym (le-leb least r.style s)) (sym k ∙ ea))
 
 -- all rows are right where their question is answered by yes
 each_right : (area cells : List ℕ) (least i n : ℕ) → rows_right area least (listed (row_at cells) i n) ≡ true → (j : ℕ) → i ≤ j → j < i + n → row_right area (row_at cells j) ≡ true
@@ -126,15 +123,9 @@ each_keyed area cells n h right =
 pub rows_keyed : (area cells : List ℕ) (n : ℕ) → 2 + 6 * n ≤ length cells → rows_right area 0 (listed (row_at cells) 0 n) ≡ true → Keyed area cells n
 rows_keyed area cells n h t = each_keyed area cells n h (λ j u. each_right area cells 0 0 n t j (omega arith) (omega arith))
 
-pub keyed_below : (area cells : List ℕ) (n i : ℕ) → Keyed area cells n → i < n → Keyed area cells (i + 1)
-keyed_below area cells n i k h = record { long = omega (arith, k.long); named_inside = λ j u. k.named_inside j (omega arith); keys = λ j u. k.keys j (omega arith) }
-
 -- ---- a loop over the names: those from index i on against all before them
 
 module _ (p : ℕ → Parameter) (n i : ℕ) {whole : Bool} (left : whole ≡ names_apart (listed p 0 i) (listed p i (n - i))) where
-  pub apart_end : n ≤ i → true ≡ whole
-  apart_end h = sym (left ∙ ap (names_apart (listed p 0 i)) (listed_end p i n h))
-
   module _ (h : i < n) where
     parts_apart : (b : Bool) → b ≡ (not (nameable (p i)) || not (known (listed p 0 i) (p i).name.bytes))
         → whole ≡ (b && names_apart (listed p 0 (i + 1)) (listed p (i + 1) (n - (i + 1))))
@@ -173,9 +164,9 @@ module _ (area cells : List ℕ) (n : ℕ) (en : n ≡ get_or cells 0 0) where
     not_long h = whole_of true false _ (sym (le-leb n 64 few)) (sym (lt-leb (2 + 6 * n) (length cells) h)) refl
 
     module _ (long : 2 + 6 * n ≤ length cells) {d : Bool} (ed : d ≡ is_text 1 area (get_or cells 1 0)) where
-      pub not_named : not d ≡ true → false ≡ is_prepared area cells
-      not_named k = whole_of true true false (sym (le-leb n 64 few)) (sym (le-leb (2 + 6 * n) (length cells) long)) (sym (not-true d k) ∙ ed)
+      pub not_named : d ≡ false → false ≡ is_prepared area cells
+      not_named k = whole_of true true false (sym (le-leb n 64 few)) (sym (le-leb (2 + 6 * n) (length cells) long)) (sym k ∙ ed)
 
       pub is_asked
-          : not d ≡ false → {e : Bool} → e ≡ (rows_right area 0 (listed (row_at cells) 0 n) && names_apart [] (listed (param_at area cells) 0 n)) → e ≡ is_prepared area cells
-      is_asked k ee = ee ∙ whole_of true true true (sym (le-leb n 64 few)) (sym (le-leb (2 + 6 * n) (length cells) long)) (sym (not-false d k) ∙ ed)
+          : d ≡ true → {e : Bool} → e ≡ (rows_right area 0 (listed (row_at cells) 0 n) && names_apart [] (listed (param_at area cells) 0 n)) → e ≡ is_prepared area cells
+      is_asked k ee = ee ∙ whole_of true true true (sym (le-leb n 64 few)) (sym (le-leb (2 + 6 * n) (length cells) long)) (sym k ∙ ed)

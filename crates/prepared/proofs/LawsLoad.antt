@@ -1,16 +1,19 @@
 -- Laws of loading a prepared list, in this order: which rows are counted, by code and style; counts and first indices after one more row;
 -- a column after one more store; the columns as a list. Assumes nothing.
 use mathlib.Core.Path.{◌≡◌, refl, sym, ap, ◌∙◌}
-use mathlib.Core.Bool.{Bool, true, false, cond, ◌||◌, false≢true}
+use mathlib.Core.Bool.{Bool, true, false, cond}
+use mir.Val.{bool_byte}
 use mathlib.Core.List.{List}
+use Rattle.std.specs.Prelude.{Option, Some, None}
+use Rattle.std.specs.Option.{option_or}
 use Prim.Native.Nat.{ℕ, zero, suc, ◌+◌, ◌*◌, ◌<◌, ◌≤◌}
-use native.Mathlib.Nat.{zero-add}
+use native.Mathlib.Nat.{zero-add, add-zero}
 use native.Mathlib.Decide.{dec_le}
 use native.Mathlib.Omega.{arith}
 use lib.Dec.{ltb, eqb}
 use lib.ListN.{length, get_or, set, length-set}
 use lib.Seq.{get_or-set_same, get_or-set_other}
-use borrow.Author.Tests.{le-ltb, ne_eqb, eqb-false}
+use borrow.Author.Tests.{le-ltb, ne_eqb}
 use Rattle.rules.specs.Value.{Value, no_value}
 use Rattle.rules.specs.Listing.{tally, first_from}
 use Rattle.rules.specs.Parameters.{Parameter, pos_or_named, comes_before, act_of, takes_position, positional as rules-positional, positional_only, is_args, is_kwargs, positional_only_count, positional_count, args_index, kwargs_index}
@@ -20,8 +23,6 @@ use Rattle.builder.specs.Params.{style_for, kind_for, parameter_of, parameter_at
 use Rattle.builder.specs.Spec.{index_of}
 use Rattle.builder.specs.Build.{IsList}
 use Rattle.builder.specs.declared.params.Parameters.{Parameters}
-use Rattle.builder.specs.declared.spec.Index.{Index}
-use Rattle.builder.specs.declared.spec.Index.TheVariants.{At, Absent}
 use Rattle.builder.specs.declared.spec.DefParamIndices.{DefParamIndices}
 use Rattle.builder.proofs.LawsCodes.{code_3, code_4, code_0, plain_code, plain_above}
 use Rattle.builder.proofs.LawsParams.{plain_any}
@@ -89,37 +90,6 @@ module _ (code : ℕ) where
       code_4 no_value (λ n. (n ≡ 6 → ⊥) → true ≡ is_kwargs (kind_for (act_of n no_value)))
       (λ a. refl) (λ a. refl) (λ a. absurd (a refl)) (λ a. refl) (λ n e a. rw e) code l six
 
-  pub either_3 : 1 ≤ code → code < 4 → false ≡ (eqb code 6 || rest_of_names code)
-  either_3 l u = rw (ne_eqb code 6 (λ e. omega arith)) (rest_3 l u)
-
-  pub either_0 : code < 1 → true ≡ (eqb code 6 || rest_of_names code)
-  either_0 u = rw (ne_eqb code 6 (λ e. omega arith)) (rest_0 u)
-
-  pub either_4 : 4 ≤ code → true ≡ (eqb code 6 || rest_of_names code)
-  either_4 l = go (eqb code 6) refl
-    where
-      go : (b : Bool) → eqb code 6 ≡ b → true ≡ (b || rest_of_names code)
-      go true e = refl
-      go false e = rest_4 l (eqb-false code 6 e)
-
--- a row that takes no rest is counted by its style, and one that does is not counted
-module _ (code style : ℕ) {b : Bool} (e : b ≡ (eqb code 6 || rest_of_names code)) where
-  pub counts_plain : b ≡ false → (ltb style 1 ≡ only_by_position code style) × (ltb style 2 ≡ by_position code style)
-  counts_plain f = split (dec_le 4 code) (dec_le 1 code)
-    where
-      split : Dec (4 ≤ code) → Dec (1 ≤ code) → (ltb style 1 ≡ only_by_position code style) × (ltb style 2 ≡ by_position code style)
-      split (yes l) d = absurd (false≢true (sym f ∙ e ∙ sym (either_4 code l)))
-      split (no l) (yes g) = (only_3 code style g (omega arith), by_3 code style g (omega arith))
-      split (no l) (no g) = absurd (false≢true (sym f ∙ e ∙ sym (either_0 code (omega arith))))
-
-  pub counts_rest : b ≡ true → (false ≡ only_by_position code style) × (false ≡ by_position code style)
-  counts_rest t = split (dec_le 4 code) (dec_le 1 code)
-    where
-      split : Dec (4 ≤ code) → Dec (1 ≤ code) → (false ≡ only_by_position code style) × (false ≡ by_position code style)
-      split (yes l) d = (only_4 code style l, by_4 code style l)
-      split (no l) (yes g) = absurd (false≢true (either_3 code g (omega arith) ∙ sym e ∙ t))
-      split (no l) (no g) = (only_0 code style (omega arith), by_0 code style (omega arith))
-
 kwargs_any : (code : ℕ) (v w : Value) → is_kwargs (kind_for (act_of code v)) ≡ is_kwargs (kind_for (act_of code w))
 kwargs_any zero v w = refl
 kwargs_any (suc zero) v w = refl
@@ -173,24 +143,24 @@ by_Row area cells i f test law = ap f (sym (row_at_cells cells i)) ∙ law (row_
 tally_next : (test : Parameter → Bool) (p : ℕ → Parameter) (i count : ℕ) (b : Bool) → count ≡ tally test (listed p 0 i) → b ≡ test (p i) → cond b (count + 1) count ≡ tally test (listed p 0 (i + 1))
 tally_next test p i count b ec eb = sym (ap (tally test) (listed_more p i) ∙ tally_snoc test (listed p 0 i) (p i) ∙ rw (← ec, ← eb))
 
-or_at_first : (x : Index) (b : Bool) (i : ℕ) → index_of (or_at x b i) ≡ or_first (index_of x) b i
-or_at_first (At j) b i = refl
-or_at_first Absent true i = refl
-or_at_first Absent false i = refl
+or_at_first : (x : Option ℕ) (b : Bool) (i : ℕ) → index_of (or_at x b i) ≡ or_first (index_of x) b i
+or_at_first (Some j) b i = refl
+or_at_first None true i = refl
+or_at_first None false i = refl
 
-first_next : (test : Parameter → Bool) (p : ℕ → Parameter) (i : ℕ) (x : Index) (b : Bool) → index_of x ≡ first_from test 0 (listed p 0 i) → b ≡ test (p i) → index_of (or_at x b i) ≡ first_from test 0 (listed p 0 (i + 1))
+first_next : (test : Parameter → Bool) (p : ℕ → Parameter) (i : ℕ) (x : Option ℕ) (b : Bool) → index_of x ≡ first_from test 0 (listed p 0 i) → b ≡ test (p i) → index_of (or_at x b i) ≡ first_from test 0 (listed p 0 (i + 1))
 first_next test p i x b ex eb =
     or_at_first x b i
     ∙ rw (ex, eb)
     (sym (ap (first_from test 0) (listed_more p i) ∙ first_snoc test 0 (listed p 0 i) (p i) ∙ ap (or_first (first_from test 0 (listed p 0 i)) (test (p i))) (zero-add (length (listed p 0 i)) ∙ length_listed p 0 i)))
 
 -- the counts and indices of the first i rows
-pub record Indexed (cells : List ℕ) (i only positional : ℕ) (args kwargs : Index) : Type 0 where
+pub record Indexed (cells : List ℕ) (i only positional : ℕ) (args kwargs : Option ℕ) : Type 0 where
   pub only_few : only ≤ i
   pub few : positional ≤ i
   pub indices : (area : List ℕ) → IndicesOf (listed (param_at area cells) 0 i) (record { num_positional_only = only; num_positional = positional; args = args; kwargs = kwargs })
 
-pub indexed_none : (cells : List ℕ) → Indexed cells 0 0 0 Absent Absent
+pub indexed_none : (cells : List ℕ) → Indexed cells 0 0 0 None None
 unfolding positional_only_count positional_count args_index kwargs_index
 indexed_none cells =
     record {
@@ -204,7 +174,7 @@ counted_few true count i h = omega arith
 counted_few false count i h = omega arith
 
 pub indexed_next
-    : (cells : List ℕ) (i only positional : ℕ) (args kwargs : Index) (o s : ℕ) (x y : Index) {a b k : Bool}
+    : (cells : List ℕ) (i only positional : ℕ) (args kwargs : Option ℕ) (o s : ℕ) (x y : Option ℕ) {a b k : Bool}
     → Indexed cells i only positional args kwargs
     → a ≡ only_by_position (get_or cells (2 + 6 * i) 0) (get_or cells (2 + 6 * i + 1) 0)
     → o ≡ cond a (only + 1) only
@@ -229,22 +199,47 @@ indexed_next cells i only positional args kwargs o s x y {a} {b} {k} h ea eo eb 
           };
     }
 
--- a row that is neither `*args` nor `**kwargs` leaves both indices as they are
-or_at_kept : (x : Index) (b : Bool) (i : ℕ) → b ≡ false → x ≡ or_at x b i
-or_at_kept (At j) b i e = refl
-or_at_kept Absent b i e = rw e
+-- the same row by row: a count goes up where the test holds, and an index is kept where it doesn't
+plus_flag : (n : ℕ) (b : Bool) → n + bool_byte b ≡ cond b (n + 1) n
+plus_flag n true = refl
+plus_flag n false = add-zero n
 
-or_neither : (a b : Bool) → (a || b) ≡ false → (a ≡ false) × (b ≡ false)
-or_neither false false e = (refl, refl)
-or_neither false true e = (refl, e)
-or_neither true false e = (e, refl)
-or_neither true true e = (e, e)
+or_at_kept : (x : Option ℕ) (b : Bool) (i : ℕ) → b ≡ false → x ≡ or_at x b i
+or_at_kept (Some j) b i e = refl
+or_at_kept None b i e = rw e
 
-pub neither_args : (code : ℕ) (x y : Index) (i : ℕ) {t : Bool} → t ≡ (eqb code 6 || rest_of_names code) → t ≡ false → y ≡ x → y ≡ or_at x (eqb code 6) i
-neither_args code x y i et f ey = ey ∙ or_at_kept x (eqb code 6) i (or_neither (eqb code 6) (rest_of_names code) (sym et ∙ f)).0
+module _ (cells : List ℕ) (i only positional : ℕ) (args kwargs : Option ℕ) (h : Indexed cells i only positional args kwargs) where
+  abbrev code : ℕ
+  code = get_or cells (2 + 6 * i) 0
 
-pub neither_kwargs : (code : ℕ) (x y : Index) (i : ℕ) {t : Bool} → t ≡ (eqb code 6 || rest_of_names code) → t ≡ false → y ≡ x → y ≡ or_at x (rest_of_names code) i
-neither_kwargs code x y i et f ey = ey ∙ or_at_kept x (rest_of_names code) i (or_neither (eqb code 6) (rest_of_names code) (sym et ∙ f)).1
+  abbrev style : ℕ
+  style = get_or cells (2 + 6 * i + 1) 0
+
+  -- one that is counted
+  pub indexed_plain : 1 ≤ code → code < 4 → Indexed cells (i + 1) (only + bool_byte (ltb style 1)) (positional + bool_byte (ltb style 2)) args kwargs
+  indexed_plain l u =
+      indexed_next cells i only positional args kwargs _ _ _ _ h
+      (only_3 code style l u) (plus_flag only (ltb style 1)) (by_3 code style l u) (plus_flag positional (ltb style 2))
+      (or_at_kept args (eqb code 6) i (ne_eqb code 6 (λ e. omega arith))) (rest_3 code l u) (or_at_kept kwargs false i refl)
+
+  -- `*args`
+  pub indexed_args : code ≡ 6 → Indexed cells (i + 1) only positional (option_or args (Some i)) kwargs
+  indexed_args e =
+      let l : 4 ≤ code = omega arith in
+      indexed_next cells i only positional args kwargs _ _ _ _ h (only_4 code style l) refl (by_4 code style l) refl
+      (ap (λ n. or_at args (eqb n 6) i) (sym e)) (rest_6 code e) (or_at_kept kwargs false i refl)
+
+  -- any other is read as `**kwargs`
+  pub indexed_kwargs : (1 ≤ code → code < 4 → ⊥) → (code ≡ 6 → ⊥) → Indexed cells (i + 1) only positional args (option_or kwargs (Some i))
+  indexed_kwargs plain six = split (dec_le 4 code) (dec_le 1 code)
+    where
+      kept : args ≡ or_at args (eqb code 6) i
+      kept = or_at_kept args (eqb code 6) i (ne_eqb code 6 six)
+
+      split : Dec (4 ≤ code) → Dec (1 ≤ code) → Indexed cells (i + 1) only positional args (option_or kwargs (Some i))
+      split (yes l) d = indexed_next cells i only positional args kwargs _ _ _ _ h (only_4 code style l) refl (by_4 code style l) refl kept (rest_4 code l six) refl
+      split (no l) (yes g) = absurd (plain g (omega arith))
+      split (no l) (no g) = indexed_next cells i only positional args kwargs _ _ _ _ h (only_0 code style (omega arith)) refl (by_0 code style (omega arith)) refl kept (rest_0 code (omega arith)) refl
 
 -- ---- the columns
 
@@ -278,14 +273,15 @@ pub record Loaded (cells : List ℕ) (i : ℕ) (codes styles names kinds payload
 pub column_none : (value : ℕ → ℕ) (xs : List ℕ) → length xs ≡ 64 → Column value 0 xs
 column_none value xs e = record { wide = e; held = λ j u. absurd (omega arith) }
 
-pub loaded_none : (cells xs : List ℕ) → length xs ≡ 64 → Loaded cells 0 xs xs xs xs xs
-loaded_none cells xs e =
+pub loaded_none : (cells codes styles names kinds payloads : List ℕ) → length codes ≡ 64 → length styles ≡ 64 → length names ≡ 64 → length kinds ≡ 64
+    → length payloads ≡ 64 → Loaded cells 0 codes styles names kinds payloads
+loaded_none cells codes styles names kinds payloads c s n k p =
     record {
-      code = column_none _ xs e;
-      style = column_none _ xs e;
-      name = column_none _ xs e;
-      kind = column_none _ xs e;
-      payload = column_none _ xs e;
+      code = column_none _ codes c;
+      style = column_none _ styles s;
+      name = column_none _ names n;
+      kind = column_none _ kinds k;
+      payload = column_none _ payloads p;
     }
 
 module _ (cells : List ℕ) (i : ℕ) (codes styles names kinds payloads : List ℕ) (l : Loaded cells i codes styles names kinds payloads) where

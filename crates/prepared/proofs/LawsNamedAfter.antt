@@ -1,11 +1,10 @@
 -- Laws of pairs that are named after rows, in this order: two texts inside their areas that have one length and one key; whether the last of
--- some rows is positional; a pair that is named after a row; pairs that are named in turn.
+-- some rows is positional; a pair that is named after a row.
 -- Assumes nothing.
 use mathlib.Core.Path.{◌≡◌, refl, sym, ap, ◌∙◌}
 use mathlib.Core.Bool.{Bool, true, false}
 use mathlib.Core.List.{List}
 use Prim.Native.Nat.{ℕ, zero, suc, ◌+◌, ◌-◌, ◌*◌, ◌/◌, ◌%◌, ◌<◌, ◌≤◌}
-use native.Mathlib.Decide.{dec_le}
 use native.Mathlib.Omega.{arith}
 use lib.Dec.{ltb}
 use lib.ListN.{length, drop, get_or, length-drop}
@@ -22,10 +21,9 @@ use Rattle.builder.specs.Params.{may_be_named}
 use Rattle.prepared.specs.Prepared.{Row}
 use Rattle.prepared.specs.Rows.{row_at, param_at, Keyed}
 use Rattle.prepared.specs.Load.{by_position}
-use Rattle.prepared.specs.InOrder.{positional_to, TurnReady, NamedAfter}
+use Rattle.prepared.specs.InOrder.{positional_to, NamedAfter}
 use Rattle.prepared.proofs.LawsRows.{row_at_cells, key_cell, name_cell, may_be_named_cells, names_bytes}
 use Rattle.prepared.proofs.LawsSlots.{slot_inside}
-use Rattle.prepared.proofs.LawsCheck.{keyed_below}
 use Rattle.prepared.proofs.LawsLoad.{by_0, by_3, by_4}
 
 -- ---- texts inside their areas
@@ -105,30 +103,3 @@ module _
         : {same : Bool} → same ≡ same_bytes (part_at area (get_or cells (pair + 1) 0)) (part_at spec (get_or list (2 + 6 * row + 2) 0)) → same ≡ true
         → NamedAfter spec list cells area pair row
     after_long es t = by_bytes (part_same area (get_or cells (pair + 1) 0) spec (get_or list (2 + 6 * row + 2) 0) key_inside row_inside (sym es ∙ t))
-
--- ---- pairs that are named in turn
-
--- those from number `left` on are named, each after its own row
-pub record TurnDone (spec list cells area : List ℕ) (from count row left : ℕ) : Type 0 where
-  pub most : left ≤ count
-  pub named : (k : ℕ) → left ≤ k → k < count → NamedAfter spec list cells area (from + 4 * k) (row + k)
-
-module _ (spec list cells area : List ℕ) (from count row : ℕ) where
-  pub turn_start : TurnDone spec list cells area from count row count
-  turn_start = record { most = omega arith; named = λ k l u. absurd (omega arith) }
-
-  module _ (ready : TurnReady spec list cells area from count row) (left : ℕ) (h : left < count) where
-    pub turn_keyed : Keyed spec list (row + left + 1)
-    turn_keyed = keyed_below spec list (row + count) (row + left) ready.keyed (omega arith)
-
-    pub turn_next
-        : ((k : ℕ) → suc left ≤ k → k < count → NamedAfter spec list cells area (from + 4 * k) (row + k))
-        → NamedAfter spec list cells area (from + 4 * left) (row + left) → TurnDone spec list cells area from count row left
-    turn_next done here = record { most = omega arith; named = λ k l u. go k l u (dec_le (suc left) k) }
-      where
-        last : (k : ℕ) → left ≡ k → NamedAfter spec list cells area (from + 4 * k) (row + k)
-        last k e = rw (← e) here
-
-        go : (k : ℕ) → left ≤ k → k < count → Dec (suc left ≤ k) → NamedAfter spec list cells area (from + 4 * k) (row + k)
-        go k l u (yes m) = done k m u
-        go k l u (no m) = last k (omega arith)

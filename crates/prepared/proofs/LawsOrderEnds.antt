@@ -4,6 +4,7 @@
 use mathlib.Core.Path.{◌≡◌, refl, sym, ap, ap₂, subst, ◌∙◌}
 use mathlib.Core.Bool.{true}
 use mathlib.Core.List.{List, [], ◌∷◌, ◌++◌, map}
+use Rattle.std.specs.Prelude.{Result, Err}
 use Prim.Native.Nat.{ℕ, ◌+◌, ◌≤◌}
 use native.Mathlib.Decide.{dec_le}
 use native.Mathlib.Omega.{arith}
@@ -11,7 +12,7 @@ use lib.ListN.{length, drop, length-append}
 use Rattle.rules.specs.Cells.{write_each, over}
 use Rattle.rules.specs.Text.{differ}
 use Rattle.rules.specs.Value.{Value, no_value, value_width, value_cells, read_value}
-use Rattle.rules.specs.Answer.{fine, refuse, none}
+use Rattle.rules.specs.Answer.{fine}
 use Rattle.rules.specs.CallRecord.{Head, Call, Named, Entry, Key, word, head_width, read_call, call_in, named_in, key_in, entry_in, words, entries_of, positionals_of, named_of}
 use Rattle.rules.specs.CallQuestions.{kinds_right, keys_differ, entries_differ, names_differ, ask_form, ask_call}
 use Rattle.rules.specs.Parameters.{Parameter}
@@ -29,8 +30,11 @@ use Rattle.cells.specs.Out.{stored}
 use Rattle.cells.proofs.LawsOut.{stored_first}
 use Rattle.cells.proofs.LawsWrite.{value_cells_two}
 use Rattle.answers.specs.Answer.{counts_of}
-use Rattle.answers.specs.declared.answer.Collected.{Collected}
-use Rattle.answers.specs.declared.answer.Collected.TheVariants.{Record}
+use Rattle.cells.specs.Question.{refused}
+use Rattle.cells.specs.declared.question.Question.{Question}
+use Rattle.answers.specs.declared.answer.Counts.{Counts}
+use Rattle.answers.specs.declared.answer.Refusal.{Refusal}
+use Rattle.answers.specs.declared.answer.Refusal.TheVariants.{Record}
 use Rattle.calls.specs.Head.{items_from, named_from, entries_from}
 use Rattle.calls.specs.Runs.{values_at, pairs_at}
 use Rattle.calls.specs.Keys.{ask_keys}
@@ -47,9 +51,9 @@ use Rattle.prepared.proofs.LawsSeenInOrder.{list_length}
 use Rattle.prepared.proofs.LawsWrittenInOrder.{pair_values_length}
 
 -- what 9 to 11 refuse
-pub form_ends : (qs : List Parameter) (cells area board : List ℕ) (n : ℕ) → ask_form 64 cells area ≡ refuse n none → Ends (bound_to qs cells area board) board board (Record n)
+pub form_ends : (qs : List Parameter) (cells area board : List ℕ) (q : Question) → ask_form 64 cells area ≡ refused q → Ends (bound_to qs cells area board) board board (Err (Record q))
 unfolding ask_keys
-form_ends qs cells area board n e = bound_keys qs cells area board n (rw e)
+form_ends qs cells area board q e = bound_keys qs cells area board q (rw e)
 
 -- ---- entries whose keys are texts
 
@@ -170,7 +174,7 @@ module _ (spec list cells area : List ℕ) (h : Head) (len : ℕ) (ready : Order
   counts : counts_of (record { taken = len; defaulted = 0; star = 0; named = 0 }) ≡ rules.counts_of qs P N
   counts = rw (ready.count, sym (list_length spec list)) (sym (counts_in_order qs first apart P N order.few order.named))
 
-  pub in_order_ends : (before after : List ℕ) (r : Collected) → InOrderEnds cells h len before after r → Ends (bound_to qs cells area before) before after r
+  pub in_order_ends : (before after : List ℕ) (r : Result Counts Refusal) → InOrderEnds cells h len before after r → Ends (bound_to qs cells area before) before after r
   in_order_ends before after r e = go (dec_le 896 (length before))
     where
       go : Dec (896 ≤ length before) → Ends (bound_to qs cells area before) before after r

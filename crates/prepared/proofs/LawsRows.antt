@@ -1,18 +1,21 @@
 -- Laws of the rows of a prepared list, in this order: by consuming the cells they are those by index; which codes may stand under which
 -- style, and the style that follows; a name with its key; what a row by itself is asked; a search for a name over rows.
 -- Assumes nothing.
-use mathlib.Core.Path.{◌≡◌, refl, sym, ap, ◌∙◌}
-use mathlib.Core.Bool.{Bool, true, false, not, ◌&&◌, and-true, and-false}
+use mathlib.Core.Path.{◌≡◌, refl, sym, ap, ap₂, ◌∙◌}
+use mathlib.Core.Bool.{Bool, true, false, ◌&&◌, ◌||◌, and-true, and-false}
 use mathlib.Core.List.{List, ◌∷◌, map}
 use Prim.Native.Nat.{ℕ, zero, suc, ◌+◌, ◌*◌, ◌/◌, ◌%◌, ◌<◌, ◌≤◌}
 use native.Mathlib.Nat.{add-zero}
+use native.Mathlib.Numerals.{add-one}
 use native.Mathlib.Omega.{arith}
 use lib.Dec.{ltb, leb, eqb}
 use lib.ListN.{length, drop, get_or}
 use lib.Seq.{drop-drop, get_or-drop}
 use native.Mathlib.Decide.{dec_le}
-use borrow.Author.Tests.{le-ltb, le-leb, lt-leb, eqb-true, eqb-false, not-true, not-false}
+use borrow.Author.Tests.{le-ltb, le-leb, lt-leb, eqb-true, eqb-false}
+use Rattle.std.specs.List.{list_any, range_with_len}
 use Rattle.rules.specs.Cells.{read_each}
+use Rattle.rules.specs.Listing.{any}
 use Rattle.rules.specs.Text.{start_of, size_of, text_in, bytes_at, inside, is_text, same_bytes}
 use Rattle.rules.specs.Value.{Value, no_value, read_value}
 use Rattle.rules.specs.Parameters.{Parameter, no_more, named_only, act, act_of, comes_before, next_style, rank, nameable}
@@ -188,21 +191,21 @@ module _ (area : List ℕ) (r : Row) where
   name_4 l = rw (has_name_4 r.step.default r.step.code l)
 
   module _ {a : Bool} (ea : a ≡ stands r.step.code r.style r.step.default) where
-    pub right_stands : not a ≡ true → false ≡ row_right area r
-    right_stands n = rw (not-true a n) at (right_of a _ _ ea refl refl)
+    pub right_stands : a ≡ false → false ≡ row_right area r
+    right_stands n = rw n at (right_of a _ _ ea refl refl)
 
-    module _ (ta : not a ≡ false) {d : Bool} (ed : d ≡ uses_right area (act r.step) r.step.name r.step.default) where
-      pub right_uses : not d ≡ true → false ≡ row_right area r
-      right_uses n = rw (not-true d n, and-false (a && step_name area r.step)) at (right_of a _ d ea refl ed)
+    module _ (ta : a ≡ true) {d : Bool} (ed : d ≡ uses_right area (act r.step) r.step.name r.step.default) where
+      pub right_uses : d ≡ false → false ≡ row_right area r
+      right_uses n = rw (n, and-false (a && step_name area r.step)) at (right_of a _ d ea refl ed)
 
-      module _ (td : not d ≡ false) where
+      module _ (td : d ≡ true) where
         pub right_name : r.step.code < 4 → {w : Bool} → w ≡ (is_text 1 area r.step.name && keyed) → w ≡ row_right area r
         right_name u ew =
             ew
-            ∙ rw (not-false a ta, not-false d td, and-true (is_text 1 area r.step.name)) at (right_of a (is_text 1 area r.step.name) d ea (name_3 u (sym ea ∙ not-false a ta)) ed)
+            ∙ rw (ta, td, and-true (is_text 1 area r.step.name)) at (right_of a (is_text 1 area r.step.name) d ea (name_3 u (sym ea ∙ ta)) ed)
 
         pub right_key : 4 ≤ r.step.code → {k : ℕ} → k ≡ key_of (bytes_at area r.step.name) → eqb r.key k ≡ row_right area r
-        right_key l ek = ap (eqb r.key) ek ∙ (rw (not-false a ta, not-false d td) at (right_of a true d ea (name_4 l) ed))
+        right_key l ek = ap (eqb r.key) ek ∙ (rw (ta, td) at (right_of a true d ea (name_4 l) ed))
 
 -- ---- a search for a name over rows
 
@@ -227,11 +230,11 @@ module _ (area bytes : List ℕ) (r : Row) where
 
   -- from the answers: a where it can be named, b where the bytes x of its name are these
   module _ {a : Bool} (ea : a ≡ may_be_named r.step.code r.style) where
-    pub names_style : not a ≡ true → false ≡ names bytes (parameter_of_row area r)
-    names_style n = sym (names_row ∙ rw (← ea, not-true a n))
+    pub names_style : a ≡ false → a ≡ names bytes (parameter_of_row area r)
+    names_style f = f ∙ sym (names_row ∙ rw (← ea, f))
 
-    pub names_bytes : not a ≡ false → {x : List ℕ} → x ≡ bytes_at area r.step.name → {b : Bool} → b ≡ same_bytes bytes x → b ≡ names bytes (parameter_of_row area r)
-    names_bytes n ex eb = eb ∙ sym (names_row ∙ rw (← ea, not-false a n, ← ex))
+    pub names_bytes : a ≡ true → {x : List ℕ} → x ≡ bytes_at area r.step.name → {b : Bool} → b ≡ same_bytes bytes x → b ≡ names bytes (parameter_of_row area r)
+    names_bytes t ex eb = eb ∙ sym (names_row ∙ rw (← ea, t, ← ex))
 
 -- ---- by the cells of a row
 
@@ -250,6 +253,28 @@ other_key area cells bytes i j keyed eb h n =
     names_key area bytes (row_at cells j) (keyed.keys j (omega arith))
     (sym (key_cell cells i) ∙ keyed.keys i (omega arith) ∙ ap (λ m. key_of (bytes_at area m)) (name_cell cells i) ∙ ap key_of (sym eb))
     (λ e. n (sym (key_cell cells j) ∙ e))
+
+-- a test of the numbers from i on is one of what they list
+any_range
+    : {X : Type 0} (test : ℕ → Bool) (f : X → Bool) (at : ℕ → X) (i n : ℕ) → ((j : ℕ) → i ≤ j → j < i + n → test j ≡ f (at j))
+    → list_any test (range_with_len i n) ≡ any f (listed at i n)
+any_range test f at i zero h = refl
+any_range test f at i (suc n) h =
+    ap₂ (λ a b. a || b) (h i (omega arith) (omega arith)) (rw add-one (any_range test f at (suc i) n (λ j l u. h j (omega arith) (omega arith))))
+
+-- the rows before row i that have its key and its name are those that have its name
+pub known_range
+    : (area cells bytes : List ℕ) (i : ℕ) → Keyed area cells (i + 1) → bytes ≡ bytes_at area (get_or cells (2 + 6 * i + 2) 0)
+    → list_any (λ j. eqb (get_or cells (2 + 6 * j + 5) 0) (get_or cells (2 + 6 * i + 5) 0) && names bytes (param_at area cells j)) (range_with_len 0 i)
+    ≡ known (listed (param_at area cells) 0 i) bytes
+unfolding known
+known_range area cells bytes i keyed eb =
+    any_range (λ j. eqb (get_or cells (2 + 6 * j + 5) 0) (get_or cells (2 + 6 * i + 5) 0) && names bytes (param_at area cells j)) (names bytes) (param_at area cells) 0 i
+    (λ j l u. go j (omega arith) (eqb (get_or cells (2 + 6 * j + 5) 0) (get_or cells (2 + 6 * i + 5) 0)) refl)
+  where
+    go : (j : ℕ) → j < i → (b : Bool) → eqb (get_or cells (2 + 6 * j + 5) 0) (get_or cells (2 + 6 * i + 5) 0) ≡ b → (b && names bytes (param_at area cells j)) ≡ names bytes (param_at area cells j)
+    go j u true e = refl
+    go j u false e = sym (other_key area cells bytes i j keyed eb u (eqb-false (get_or cells (2 + 6 * j + 5) 0) (get_or cells (2 + 6 * i + 5) 0) e))
 
 -- row i's name by its bytes, as its cell names them
 pub known_bytes

@@ -1,28 +1,26 @@
--- Laws of the loop of `rows_right`, in this order: what holds before a row; the ways in and out; a row that is right, whose name is asked
+-- Laws of the loop of `rows_right`, in this order: what holds before a row; the ways out; a row that is right, whose name is asked
 -- next; the ways on to the row behind it. Assumes nothing.
 use mathlib.Core.Path.{◌≡◌, refl, sym, ap, ◌∙◌}
-use mathlib.Core.Bool.{Bool, true, false, not, ◌&&◌}
+use mathlib.Core.Bool.{Bool, true, false, ◌&&◌}
 use mathlib.Core.List.{List, []}
 use Prim.Native.Nat.{ℕ, suc, ◌+◌, ◌-◌, ◌*◌, ◌%◌, ◌<◌, ◌≤◌}
-use native.Mathlib.Nat.{sub-zero}
 use native.Mathlib.Decide.{dec_le}
 use native.Mathlib.Omega.{arith}
 use lib.ListN.{length, get_or, set}
-use borrow.Author.Tests.{not-false}
 use Rattle.rules.specs.Text.{text_in, bytes_at, inside}
 use Rattle.rules.specs.Value.{Value}
 use Rattle.rules.specs.Parameters.{nameable, act_of, act, next_style, rank}
 use Rattle.rules.specs.Lookup.{known}
 use Rattle.rules.specs.Passed.{names_apart}
-use Rattle.rules.proofs.LawsListing.{and_both, and_no_left, and_no_right}
+use Rattle.rules.proofs.LawsListing.{and_no_left, and_no_right}
 use Rattle.cells.specs.Listed.{listed}
 use Rattle.cells.specs.Text.{key_of, last_key}
 use Rattle.builder.specs.Params.{style_for, parameter_of, may_be_named}
 use Rattle.prepared.specs.Prepared.{Row, parameter_of_row, row_right, rows_right}
 use Rattle.prepared.specs.Rows.{row_at, param_at, slot_at, Keyed, stands}
 use Rattle.prepared.proofs.LawsRows.{nameable_row}
-use Rattle.prepared.proofs.LawsSlots.{Marked, marked_none, slot_below, slot_new, slot_marked, slot_kept}
-use Rattle.prepared.proofs.LawsCheck.{right_key, right_inside, right_style, right_stands, rows_end, rows_style, rows_row, rows_next, apart_end, apart_twice, apart_new, apart_unnamed, each_keyed}
+use Rattle.prepared.proofs.LawsSlots.{Marked, slot_new, slot_marked, slot_kept}
+use Rattle.prepared.proofs.LawsCheck.{right_key, right_inside, right_style, right_stands, rows_style, rows_row, rows_next, apart_twice, apart_new, apart_unnamed, each_keyed}
 
 -- the answer for the n rows
 unfoldable pub asked : List ℕ → List ℕ → ℕ → Bool
@@ -43,9 +41,6 @@ pub record Right (area cells : List ℕ) (n : ℕ) (used : List ℕ) (least i : 
   pub in_order : least ≤ r.style
   pub right : true ≡ row_right area r
 
-pub so_far_none : (area cells : List ℕ) (n : ℕ) (used : List ℕ) → length used ≡ 929 → SoFar area cells n used 0 0
-so_far_none area cells n used e = record { rows = rw sub-zero; apart = rw sub-zero; right = λ j u. absurd (omega arith); marks = marked_none area cells used e }
-
 module _ (area cells : List ℕ) (n : ℕ) where
   no_rows : false ≡ rows_right area 0 (listed (row_at cells) 0 n) → false ≡ asked area cells n
   unfolding asked
@@ -55,24 +50,17 @@ module _ (area cells : List ℕ) (n : ℕ) where
   unfolding asked
   no_names e = sym (and_no_right (rows_right area 0 (listed (row_at cells) 0 n)) (names_apart [] (listed (param_at area cells) 0 n)) (sym e))
 
-  both : true ≡ rows_right area 0 (listed (row_at cells) 0 n) → true ≡ names_apart [] (listed (param_at area cells) 0 n) → true ≡ asked area cells n
-  unfolding asked
-  both e f = sym (and_both (rows_right area 0 (listed (row_at cells) 0 n)) (names_apart [] (listed (param_at area cells) 0 n)) (sym e) (sym f))
-
 module _ (area cells : List ℕ) (n : ℕ) (used : List ℕ) (least i : ℕ) (s : SoFar area cells n used least i) where
-  pub all_asked : n ≤ i → true ≡ asked area cells n
-  all_asked h = both area cells n (rows_end area cells n i least s.rows h) (apart_end (param_at area cells) n i s.apart h)
-
   module _ (h : i < n) {r : Row} (er : r ≡ row_at cells i) where
     pub too_early : r.style < least → false ≡ asked area cells n
     too_early e = no_rows area cells n (rows_style area cells n i least s.rows h er e)
 
     module _ (l : least ≤ r.style) {a : Bool} (ea : a ≡ row_right area r) where
-      pub row_wrong : not a ≡ true → false ≡ asked area cells n
+      pub row_wrong : a ≡ false → false ≡ asked area cells n
       row_wrong k = no_rows area cells n (rows_row area cells n i least s.rows h er l ea k)
 
-      pub row_right_lem : not a ≡ false → Right area cells n used least i r
-      row_right_lem k = record { so_far = s; there = h; row = er; in_order = l; right = sym (not-false a k) ∙ ea }
+      pub row_right_lem : a ≡ true → Right area cells n used least i r
+      row_right_lem k = record { so_far = s; there = h; row = er; in_order = l; right = sym k ∙ ea }
 
 -- ---- behind the questions of row i by itself
 
@@ -97,9 +85,6 @@ module _ {area cells : List ℕ} {n : ℕ} {used : List ℕ} {least i : ℕ} {r 
   slot_here : {slot : ℕ} → slot ≡ last_key (bytes_at area r.step.name) % 929 → slot ≡ slot_at area cells i
   unfolding slot_at
   slot_here e = e ∙ ap (λ (q : Row). last_key (bytes_at area q.step.name) % 929) now.row
-
-  pub slot_within : {slot : ℕ} → slot ≡ last_key (bytes_at area r.step.name) % 929 → slot < 929
-  slot_within {slot} e = rw (slot_here e) (slot_below area cells i)
 
   -- on to the next row
   on

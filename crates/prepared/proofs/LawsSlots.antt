@@ -55,9 +55,6 @@ pub record Marked (area cells used : List ℕ) (i : ℕ) : Type 0 where
   pub size : length used ≡ 929
   pub marked : (j : ℕ) → j < i → nameable (param_at area cells j) ≡ true → get_or used (slot_at area cells j) 0 ≡ 1
 
-pub marked_none : (area cells used : List ℕ) → length used ≡ 929 → Marked area cells used 0
-marked_none area cells used e = record { size = e; marked = λ j u t. absurd (omega arith) }
-
 module _ (area cells used : List ℕ) (i : ℕ) (m : Marked area cells used i) where
   pub slot_new : {s : ℕ} → s ≡ slot_at area cells i → (get_or used s 0 ≡ 1 → ⊥) → known (listed (param_at area cells) 0 i) (bytes_at area (row_at cells i).step.name) ≡ false
   unfolding known slot_at

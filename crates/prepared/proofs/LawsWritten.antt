@@ -1,8 +1,9 @@
--- Laws of writing a prepared list, in this order: the row of what the columns keep; a row's cells stored two at a time; a loop that writes
--- the rows; how preparing ends. Assumes nothing.
+-- Laws of writing a prepared list, in this order: the row of what the columns keep; a loop that writes the rows; how preparing ends.
+-- Assumes nothing.
 use mathlib.Core.Path.{◌≡◌, refl, sym, ap, ◌∙◌}
 use mathlib.Core.List.{List, [], ◌∷◌}
-use Prim.Native.Nat.{ℕ, zero, suc, ◌+◌, ◌*◌, ◌<◌, ◌≤◌}
+use Rattle.std.specs.Prelude.{Ok, Err}
+use Prim.Native.Nat.{ℕ, zero, suc, min, ◌+◌, ◌*◌, ◌<◌, ◌≤◌}
 use native.Mathlib.Nat.{zero-add}
 use native.Mathlib.Omega.{arith}
 use lib.ListN.{length, get_or}
@@ -10,10 +11,12 @@ use borrow.Author.Tests.{le-leb, lt-leb}
 use Rattle.rules.specs.Cells.{write_each, over}
 use Rattle.rules.specs.Text.{text_in, bytes_at}
 use Rattle.rules.specs.Value.{Value, no_value}
-use Rattle.rules.specs.Answer.{fine, refuse, none}
+use Rattle.rules.specs.Answer.{fine}
 use Rattle.rules.specs.Parameters.{act_of, rank}
 use Rattle.rules.specs.ParameterQuestions.{ask_parameters, list_of}
 use Rattle.rules.proofs.LawsRecord.{length_write_each}
+use Rattle.cells.specs.Question.{refused}
+use Rattle.cells.specs.declared.question.Question.{Question}
 use Rattle.cells.specs.Out.{stored}
 use Rattle.cells.specs.Listed.{listed}
 use Rattle.cells.proofs.LawsListed.{length_listed}
@@ -26,7 +29,7 @@ use Rattle.cells.specs.Text.{key_of}
 use Rattle.prepared.specs.Prepared.{Row, row_cells, row_of, code_of, prepared_cells, prepared_from, prepared_length, front_width, row_width}
 use Rattle.prepared.specs.Written.{code_as, default_as}
 use Rattle.prepared.specs.Bind.{Preparing}
-use Rattle.prepared.specs.declared.Preparation.TheVariants.{Written, Refused, NoRoom}
+use Rattle.prepared.specs.declared.Unprepared.TheVariants.{List as of_list, NoRoom}
 use Rattle.prepared.proofs.LawsRows.{map_listed}
 
 -- ---- a row
@@ -77,11 +80,11 @@ default_none (suc (suc (suc (suc (suc (suc zero)))))) v n = refl
 default_none (suc (suc (suc (suc (suc (suc (suc zero))))))) v n = refl
 default_none (suc (suc (suc (suc (suc (suc (suc (suc k)))))))) v n = refl
 
-pub last_style : (style : ℕ) → 3 ≤ style → 3 ≡ rank (style_for style)
-last_style zero h = absurd (omega arith)
-last_style (suc zero) h = absurd (omega arith)
-last_style (suc (suc zero)) h = absurd (omega arith)
-last_style (suc (suc (suc n))) h = refl
+pub least_style : (style : ℕ) → min style 3 ≡ rank (style_for style)
+least_style zero = refl
+least_style (suc zero) = refl
+least_style (suc (suc zero)) = refl
+least_style (suc (suc (suc n))) = omega arith
 
 pub row_for
     : (area : List ℕ) (code style name : ℕ) (v : Value) (c s k : ℕ) (d : Value)
@@ -98,22 +101,6 @@ row_for area code style name v c s k d ec es ed ek = rw (ec, es, ed, ek, code_an
 pub row_cells_six : (r : Row) → length (row_cells r) ≡ 6
 unfolding row_cells
 row_cells_six r = refl
-
-pub row_stored
-    : (out one two three : List ℕ) (at : ℕ) (r : Row) → at + 6 ≤ length out
-    → one ≡ stored out at (r.step.code ∷ r.style ∷ [])
-    → two ≡ stored one (at + 2) (r.step.name ∷ r.step.default.kind ∷ [])
-    → three ≡ stored two (at + 4) (r.step.default.payload ∷ r.key ∷ [])
-    → three ≡ stored out at (row_cells r)
-unfolding row_cells
-row_stored out one two three at r h e1 e2 e3 =
-    e3
-    ∙ ap (λ l. stored l (at + 4) (r.step.default.payload ∷ r.key ∷ []))
-    (e2
-    ∙ ap (λ l. stored l (at + 2) (r.step.name ∷ r.step.default.kind ∷ [])) e1
-    ∙ stored_stored out (r.step.code ∷ r.style ∷ []) (r.step.name ∷ r.step.default.kind ∷ []) at (at + 2) refl (omega arith))
-    ∙ stored_stored out (r.step.code ∷ r.style ∷ r.step.name ∷ r.step.default.kind ∷ []) (r.step.default.payload ∷ r.key ∷ []) at (at + 4) refl
-    (omega arith)
 
 -- ---- the rows, one after the other behind the front
 
@@ -175,17 +162,17 @@ unfolding parameters_in
 count_of area p = length_listed (parameter_at area p) 0 p.len
 
 module _ (spec_cells area out : List ℕ) where
-  pub preparing_refused : (n : ℕ) → ask_parameters 64 spec_cells area ≡ refuse n none → Preparing spec_cells area out out (Refused n)
-  preparing_refused n e = record { answer = rw e; cells = rw e }
+  pub preparing_refused : (q : Question) → ask_parameters 64 spec_cells area ≡ refused q → Preparing spec_cells area out out (Err (of_list q))
+  preparing_refused q e = record { answer = rw e; cells = rw e }
 
-  pub preparing_short : ask_parameters 64 spec_cells area ≡ fine → length out < 386 → Preparing spec_cells area out out NoRoom
+  pub preparing_short : ask_parameters 64 spec_cells area ≡ fine → length out < 386 → Preparing spec_cells area out out (Err NoRoom)
   unfolding prepared_length front_width row_width
   preparing_short e h = record { answer = rw (e, lt-leb 386 (length out) h); cells = rw (e, lt-leb 386 (length out) h) }
 
   pub preparing_written
       : (after : List ℕ) (p : Parameters) → ask_parameters 64 spec_cells area ≡ fine → 386 ≤ length out → parameters_in area p ≡ list_of spec_cells area
       → after ≡ over (prepared_cells (get_or spec_cells 0 0) (parameters_in area p)) out
-      → Preparing spec_cells area out after (Written (2 + 6 * p.len))
+      → Preparing spec_cells area out after (Ok (2 + 6 * p.len))
   unfolding prepared_from prepared_length front_width row_width
   preparing_written after p e h ep ea =
       record {

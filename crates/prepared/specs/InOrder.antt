@@ -1,6 +1,6 @@
 -- A call whose arguments stand in the list's order, one for each parameter: the values of P for the first ones, and the named values of N,
 -- each named after its own parameter, for the others. What the code asks of such a call, and what it then writes.
-use Rattle.std.specs.Prelude.{◌≡◌, Bool, true, false, ◌&&◌, List, [], ◌∷◌, ◌++◌, map, ℕ, zero, suc, ◌+◌, ◌*◌, ◌<◌, ◌≤◌, length, drop, get_or}
+use Rattle.std.specs.Prelude.{◌≡◌, Result, Ok, Err, Bool, true, false, ◌&&◌, List, [], ◌∷◌, ◌++◌, map, ℕ, zero, suc, ◌+◌, ◌*◌, ◌<◌, ◌≤◌, length, drop, get_or}
 use Rattle.rules.specs.Cells.{write_each}
 use Rattle.rules.specs.Text.{bytes_at}
 use Rattle.rules.specs.Value.{Value, value_cells, call_text, well_formed_key}
@@ -14,8 +14,10 @@ use Rattle.rules.specs.Listing.{all}
 use Rattle.rules.specs.Binding.{star_passes, double_passes}
 use Rattle.cells.specs.Record.{pair_at}
 use Rattle.cells.specs.Out.{stored}
-use Rattle.answers.specs.declared.answer.Collected.{Collected}
-use Rattle.answers.specs.declared.answer.Collected.TheVariants.{Accepted, Record}
+use Rattle.cells.specs.declared.question.Question.TheVariants.{ShortBoard}
+use Rattle.answers.specs.declared.answer.Counts.{Counts}
+use Rattle.answers.specs.declared.answer.Refusal.{Refusal}
+use Rattle.answers.specs.declared.answer.Refusal.TheVariants.{Record}
 use Rattle.calls.specs.Head.{items_from, named_from, entries_from}
 use Rattle.calls.specs.Runs.{values_at, pairs_at}
 use Rattle.prepared.specs.Prepared.{is_prepared}
@@ -78,6 +80,6 @@ values_in_order cells h =
     (values_at cells head_width h.p ++ values_at cells (items_from h) h.s) ++ (pair_values cells (named_from h) h.n ++ pair_values cells (entries_from h) h.d)
 
 -- 14 is asked, and then they are the slots
-pub record InOrderEnds (cells : List ℕ) (h : Head) (len : ℕ) (before after : List ℕ) (r : Collected) : Type 0 where
-  pub short : length before < 896 → (r ≡ Record 14) × (after ≡ before)
-  pub long : 896 ≤ length before → (r ≡ Accepted (record { taken = len; defaulted = 0; star = 0; named = 0 })) × (after ≡ stored before 0 (write_each value_cells (values_in_order cells h)))
+pub record InOrderEnds (cells : List ℕ) (h : Head) (len : ℕ) (before after : List ℕ) (r : Result Counts Refusal) : Type 0 where
+  pub short : length before < 896 → (r ≡ Err (Record ShortBoard)) × (after ≡ before)
+  pub long : 896 ≤ length before → (r ≡ Ok (record { taken = len; defaulted = 0; star = 0; named = 0 })) × (after ≡ stored before 0 (write_each value_cells (values_in_order cells h)))

@@ -1,5 +1,7 @@
 -- What reading a prepared list promises: `DefParamIndices` of the rows, counted row by row, and the rows in the builder's columns.
-use Rattle.std.specs.Prelude.{◌≡◌, Bool, true, false, ◌&&◌, List, ℕ, get_or}
+use Rattle.std.specs.Prelude.{◌≡◌, Option, Bool, ◌&&◌, List, ℕ, get_or}
+use Rattle.std.specs.Option.{option_or}
+use Rattle.std.specs.Bool.{then_some}
 use Rattle.rules.specs.Value.{no_value}
 use Rattle.rules.specs.Parameters.{Parameter, pos_or_named, comes_before, act_of, plain, takes_position, is_kwargs, positional_only_count, positional_count, args_index, kwargs_index}
 use Rattle.builder.specs.Params.{style_for, kind_for}
@@ -9,8 +11,6 @@ use Rattle.builder.specs.Build.{IsList}
 use Rattle.builder.specs.declared.params.Parameters.{Parameters}
 use Rattle.prepared.specs.Prepared.{list_in}
 use Rattle.prepared.specs.Rows.{param_at}
-use Rattle.builder.specs.declared.spec.Index.{Index}
-use Rattle.builder.specs.declared.spec.Index.TheVariants.{At, Absent}
 use Rattle.builder.specs.declared.spec.DefParamIndices.{DefParamIndices}
 
 -- by code and style: positional, positional-only, and **kwargs
@@ -24,10 +24,8 @@ unfoldable pub rest_of_names : ℕ → Bool
 rest_of_names code = is_kwargs (kind_for (act_of code no_value))
 
 -- the first index so far, after one more row
-abbrev pub or_at : Index → Bool → ℕ → Index
-or_at (At j) b i = At j
-or_at Absent true i = At i
-or_at Absent false i = Absent
+abbrev pub or_at : Option ℕ → Bool → ℕ → Option ℕ
+or_at found b i = option_or found (then_some b i)
 
 -- both counts and both indices are those of the list
 pub record IndicesOf (qs : List Parameter) (d : DefParamIndices) : Type 0 where

@@ -22,13 +22,7 @@ pub fn is_prepared(cells: &[u64], area: &[u8]) -> bool
         return false;
     }
     let n = count as usize;
-    if cells.len() < FRONT + ROW * n {
-        return false;
-    }
-    if !is_name(area, cells[1]) {
-        return false;
-    }
-    rows_right(cells, area, n)
+    FRONT + ROW * n <= cells.len() && is_name(area, cells[1]) && rows_right(cells, area, n)
 }
 
 // A function's name is one where a required parameter's would be.
@@ -52,26 +46,19 @@ fn rows_right(cells: &[u64], area: &[u8], n: usize) -> bool
 {
     let mut used: [u8; SLOTS] = [0; SLOTS];
     let mut least: u64 = 0;
-    let mut i = 0;
-    while i < n {
+    for i in 0..n {
         let row = row_at(cells, i);
-        if row.style < least {
-            return false;
-        }
-        if !row.is_right(area) {
+        if row.style < least || !row.is_right(area) {
             return false;
         }
         if may_be_named(row.code, row.style) {
             let slot = row.slot(area);
-            if used[slot] == 1 {
-                if known_before(cells, area, i) {
-                    return false;
-                }
+            if used[slot] == 1 && known_before(cells, area, i) {
+                return false;
             }
             used[slot] = 1;
         }
         least = style_after(row.code, row.style);
-        i += 1;
     }
     true
 }
@@ -84,16 +71,7 @@ fn known_before(cells: &[u64], area: &[u8], i: usize) -> bool
     let at = FRONT + ROW * i;
     let key = cells[at + KEY];
     let bytes = bytes_at(area, cells[at + NAME]);
-    let mut j = 0;
-    while j < i {
-        if cells[FRONT + ROW * j + KEY] == key {
-            if is_named(cells, area, j, bytes) {
-                return true;
-            }
-        }
-        j += 1;
-    }
-    false
+    (0..i).any(|j| cells[FRONT + ROW * j + KEY] == key && is_named(cells, area, j, bytes))
 }
 
 // Is row j nameable, and by these bytes?
@@ -102,8 +80,5 @@ fn is_named(cells: &[u64], area: &[u8], j: usize, bytes: &[u8]) -> bool
     ensures { result ≡ names bytes.now (param_at area.now cells.now j) }
 {
     let at = FRONT + ROW * j;
-    if !may_be_named(cells[at], cells[at + STYLE]) {
-        return false;
-    }
-    same(bytes, bytes_at(area, cells[at + NAME]))
+    may_be_named(cells[at], cells[at + STYLE]) && same(bytes, bytes_at(area, cells[at + NAME]))
 }

@@ -12,14 +12,15 @@ ghost use Rattle.prepared.specs.Rows.{Keyed};
 ghost use Rattle.prepared.specs.InOrder.{InOrder, OrderReady, positional_to, TurnReady, NamedAfter, InOrderEnds};
 
 use crate::row::{FRONT, KEY, NAME, ROW, STYLE, key_of};
-use answers::answer::{Collected, Counts};
+use answers::answer::{Counts, Refusal};
 use builder::params::may_be_named;
 use calls::head::{HEAD, Head, PAIR, VALUE, entries_from, items_from, named_from};
 use calls::values::{copy_named, copy_values};
+use cells::question::Question;
 use cells::text::same_text;
 use collector::collect::BOARD;
 
-// Is each argument in its parameter's place? Entries are looked at before written names, and both from the last one back; any order would do.
+// Is each argument in its parameter's place? Entries are looked at before written names; any order would do.
 pub(crate) fn in_order(
     list: &[u64],
     spec: &[u8],
@@ -32,22 +33,12 @@ pub(crate) fn in_order(
     ensures { result ≡ true → InOrder (list_in spec.now list.now) (call_of cells.now area.now) }
 {
     let values = h.p + h.s;
-    if values + h.n + h.d != len {
+    if values + h.n + h.d != len || h.star_kind == 2 || h.double_kind == 2 {
         return false;
     }
-    if h.star_kind == 2 {
-        return false;
-    }
-    if h.double_kind == 2 {
-        return false;
-    }
-    if !takes_positions(list, values) {
-        return false;
-    }
-    if !named_in_turn(list, spec, cells, area, entries_from(h), h.d, values + h.n) {
-        return false;
-    }
-    named_in_turn(list, spec, cells, area, named_from(h), h.n, values)
+    takes_positions(list, values)
+        && named_in_turn(list, spec, cells, area, entries_from(h), h.d, values + h.n)
+        && named_in_turn(list, spec, cells, area, named_from(h), h.n, values)
 }
 
 // Is the last of the first `count` rows positional? Then all of them are: the positional ones come first.
@@ -66,7 +57,7 @@ fn takes_positions(list: &[u64], count: usize) -> bool
 }
 
 // Are the `count` pairs from a cell on named after the rows from number `row` on, each after its own? They are looked at from the last one
-// back.
+// back; any order would do.
 fn named_in_turn(
     list: &[u64],
     spec: &[u8],
@@ -79,10 +70,8 @@ fn named_in_turn(
     requires { TurnReady spec.now list.now cells.now area.now from count row }
     ensures { result ≡ true → (k : ℕ) → k < count → NamedAfter spec.now list.now cells.now area.now (from + 4 * k) (row + k) }
 {
-    let mut left = count;
-    while 0 < left {
-        left -= 1;
-        if !named_after(list, spec, cells, area, from + PAIR * left, row + left) {
+    for k in (0..count).rev() {
+        if !named_after(list, spec, cells, area, from + PAIR * k, row + k) {
             return false;
         }
     }
@@ -101,42 +90,39 @@ fn named_after(
     requires { Keyed spec.now list.now (row + 1) × (row < 64) × (pair + 2 ≤ length cells.now) × (well_formed_key area.now (pair_at cells.now pair) ≡ true) }
     ensures { result ≡ true → NamedAfter spec.now list.now cells.now area.now pair row }
 {
-    // A key can be a whole number too.
-    if cells[pair] != 6 {
-        return false;
-    }
     let at = FRONT + ROW * row;
     let name = cells[pair + 1];
     let other = list[at + NAME];
-    if name % 256 != other % 256 {
+    // A key can be a whole number too.
+    if cells[pair] != 6
+        || name % 256 != other % 256
+        || !may_be_named(list[at], list[at + STYLE])
+        || list[at + KEY] != key_of(area, name)
+    {
         return false;
     }
-    if !may_be_named(list[at], list[at + STYLE]) {
-        return false;
-    }
-    if list[at + KEY] != key_of(area, name) {
-        return false;
-    }
-    if name % 256 <= 8 {
-        return true;
-    }
-    same_text(area, name, spec, other)
+    name % 256 <= 8 || same_text(area, name, spec, other)
 }
 
 // 14, and then the values are put on the board as they stand: each is its parameter's slot.
-pub(crate) fn collect_in_order(cells: &[u64], h: Head, len: usize, board: &mut [u64]) -> Collected
+pub(crate) fn collect_in_order(
+    cells: &[u64],
+    h: Head,
+    len: usize,
+    board: &mut [u64],
+) -> Result<Counts, Refusal>
     requires { Few 64 (head_of h) × (length cells.now ≡ call_length (head_of h)) × (h.p + h.s + h.n + h.d ≤ 64) }
     ensures { InOrderEnds cells.now (head_of h) len board.old board.new result }
 {
     if board.len() < BOARD {
-        return Collected::Record(14);
+        return Err(Refusal::Record(Question::ShortBoard));
     }
     let values = h.p + h.s;
     copy_values(cells, HEAD, h.p, 0, board);
     copy_values(cells, items_from(h), h.s, VALUE * h.p, board);
     copy_named(cells, named_from(h), h.n, VALUE * values, board);
     copy_named(cells, entries_from(h), h.d, VALUE * (values + h.n), board);
-    Collected::Accepted(Counts {
+    Ok(Counts {
         taken: len,
         defaulted: 0,
         star: 0,

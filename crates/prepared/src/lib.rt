@@ -2,17 +2,23 @@
 // against the cells. They come back from outside, so they are asked before they are believed.
 #![tactic(auto)]
 
+ghost use Rattle.std.specs.Prelude.{◌≡◌};
 ghost use Rattle.calls.specs.Head.{head_of};
+ghost use Rattle.answers.specs.declared.answer.Refusal.TheVariants.{Record};
 ghost use Rattle.collector.specs.Collect.{Ends, bound_to};
 ghost use Rattle.prepared.specs.Prepared.{list_in, bound_prepared};
 ghost use Rattle.prepared.specs.Bind.{Preparing, EndsBound};
 ghost use Rattle.prepared.specs.InOrder.{OrderReady};
+ghost use Rattle.prepared.specs.declared.Unprepared.TheVariants.{List};
+ghost use Rattle.prepared.specs.declared.PreparedRefusal.TheVariants.{Call};
 
-use answers::answer::Collected;
+use answers::answer::{Counts, Refusal};
 use builder::build;
+use builder::params::Parameters;
+use builder::spec::ParametersSpec;
 use calls::head::{Head, read_head};
 use calls::{ask_entries, ask_form};
-use cells::answer::Answer;
+use cells::question::Question;
 use cells::record::cell;
 use check::is_prepared;
 use collector::collect::collect_open;
@@ -30,41 +36,59 @@ pub mod write;
 // How many cells the longest list takes.
 pub const PREPARED: usize = 386;
 
-// How preparing ends.
-#[derive(Drop)]
-pub enum Preparation {
-    // so many cells are written
-    Written(usize),
-    // 1 to 7, by its number
-    Refused(u64),
+// Why no list is written.
+#[derive(Clone, Copy, Debug, PartialEq, Eq)]
+pub enum Unprepared {
+    // 1 to 7
+    List(Question),
     // fewer cells are lent than the longest list takes
     NoRoom,
 }
 
-// How binding against lent cells ends.
-#[derive(Drop)]
-pub enum PreparedBound {
-    // the cells are no prepared list
-    NotPrepared,
-    Bound(Collected),
+impl From<Question> for Unprepared {
+    ghost from_gives = { λ question unprepared. unprepared ≡ List question };
+
+    fn from(question: Question) -> Unprepared {
+        Unprepared::List(question)
+    }
 }
 
-// The list of a parameter record, of any cells and bytes, laid out from cell 0 on. Nothing is written unless all of it is.
-pub fn prepare(spec_cells: &[u64], spec: &[u8], out: &mut [u64]) -> Preparation
+// Why a call isn't bound against lent cells.
+#[derive(Clone, Copy, Debug, PartialEq, Eq)]
+pub enum PreparedRefusal {
+    // the cells are no prepared list
+    NotPrepared,
+    // 9 to 24
+    Call(Refusal),
+}
+
+impl From<Refusal> for PreparedRefusal {
+    ghost from_gives = { λ refusal refused. refused ≡ Call refusal };
+
+    fn from(refusal: Refusal) -> PreparedRefusal {
+        PreparedRefusal::Call(refusal)
+    }
+}
+
+impl From<Question> for PreparedRefusal {
+    ghost from_gives = { λ question refused. refused ≡ Call (Record question) };
+
+    fn from(question: Question) -> PreparedRefusal {
+        PreparedRefusal::Call(Refusal::Record(question))
+    }
+}
+
+// The list of a parameter record, of any cells and bytes, laid out from cell 0 on: how many cells are written. Nothing is written unless all
+// of it is.
+pub fn prepare(spec_cells: &[u64], spec: &[u8], out: &mut [u64]) -> Result<usize, Unprepared>
     ensures { Preparing spec_cells.now spec.now out.old out.new result }
 {
-    let built = build(spec_cells, spec);
-    let listed = built.answer;
-    if let Answer::Refused(question) = listed {
-        return Preparation::Refused(question);
-    }
+    let list = build(spec_cells, spec)?;
     if out.len() < PREPARED {
-        return Preparation::NoRoom;
+        return Err(Unprepared::NoRoom);
     }
-    let list = built.list;
-    let params = list.params;
-    write_list(params, cell(spec_cells, 0), spec, out);
-    Preparation::Written(FRONT + ROW * params.len)
+    write_list(&list.params, cell(spec_cells, 0), spec, out);
+    Ok(FRONT + ROW * list.params.len)
 }
 
 // A call, of any cells and bytes, against cells that are handed over as a prepared list. One whose arguments stand in the list's order is bound
@@ -75,22 +99,19 @@ pub fn bind_prepared(
     cells: &[u64],
     area: &[u8],
     board: &mut [u64],
-) -> PreparedBound
+) -> Result<Counts, PreparedRefusal>
     ensures { EndsBound (bound_prepared spec.now prepared.now cells.now area.now board.old) board.old board.new result }
 {
     if !is_prepared(prepared, spec) {
-        return PreparedBound::NotPrepared;
+        return Err(PreparedRefusal::NotPrepared);
     }
-    let asked = ask_form(cells, area);
-    if let Answer::Refused(question) = asked {
-        return PreparedBound::Bound(Collected::Record(question));
-    }
+    ask_form(cells, area)?;
     let n = cell(prepared, 0) as usize;
     let h = read_head(cells);
     if in_order(prepared, spec, cells, area, h, n) {
-        return PreparedBound::Bound(collect_in_order(cells, h, n, board));
+        return Ok(collect_in_order(cells, h, n, board)?);
     }
-    PreparedBound::Bound(collect_loaded(prepared, spec, cells, area, h, n, board))
+    Ok(collect_loaded(prepared, spec, cells, area, h, n, board)?)
 }
 
 // Any other call that has passed 9 to 11: 12, and then the rows are loaded for 13 to 24.
@@ -102,28 +123,15 @@ fn collect_loaded(
     h: Head,
     n: usize,
     board: &mut [u64],
-) -> Collected
+) -> Result<Counts, Refusal>
     requires { OrderReady spec.now prepared.now cells.now area.now (head_of h) n }
     ensures { Ends (bound_to (list_in spec.now prepared.now) cells.now area.now board.old) board.old board.new result }
 {
-    let asked = ask_entries(cells, area);
-    if let Answer::Refused(question) = asked {
-        return Collected::Record(question);
-    }
-    let indices = indices_in(prepared, n);
-    let params = load(prepared);
-    collect_open(
-        spec,
-        &params.codes,
-        &params.styles,
-        &params.names,
-        &params.default_kinds,
-        &params.default_payloads,
-        params.len,
-        indices,
-        cells,
-        area,
-        h,
-        board,
-    )
+    ask_entries(cells, area)?;
+    let mut list = ParametersSpec {
+        params: Parameters::new(),
+        indices: indices_in(prepared, n),
+    };
+    load(prepared, &mut list.params);
+    collect_open(&list, spec, cells, area, h, board)
 }

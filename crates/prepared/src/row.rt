@@ -145,24 +145,13 @@ impl Row {
 fn name_right(area: &[u8], name: u64, key: u64) -> bool
     ensures { result ≡ (is_text 1 area.now name && eqb key (key_of (bytes_at area.now name))) }
 {
-    if 0xff_ffff < name {
-        return false;
-    }
     let start = (name / 256) as usize;
     let len = (name % 256) as usize;
-    if len == 0 {
+    if 0xff_ffff < name || len == 0 {
         return false;
     }
-    if start + 8 <= area.len() {
-        if len <= 8 {
-            return key == short_key(area, start, len);
-        }
+    if start + 8 <= area.len() && len <= 8 {
+        return key == short_key(area, start, len);
     }
-    if 64 < len {
-        return false;
-    }
-    if area.len() < start + len {
-        return false;
-    }
-    key == key_of(area, name)
+    len <= 64 && start + len <= area.len() && key == key_of(area, name)
 }

@@ -15,13 +15,12 @@ use cells::out::put;
 use cells::value::Pair;
 
 // All of it, from cell 0 on; the cells behind it are kept.
-pub(crate) fn write_list(params: Parameters, function: u64, area: &[u8], out: &mut [u64])
-    requires { (params.len ≤ 64) × (2 + 6 * params.len ≤ length out.old) }
-    ensures { out.new ≡ over (prepared_cells function (parameters_in area.now params)) out.old }
+pub(crate) fn write_list(params: &Parameters, function: u64, area: &[u8], out: &mut [u64])
+    requires { (params.now.len ≤ 64) × (2 + 6 * params.now.len ≤ length out.old) }
+    ensures { out.new ≡ over (prepared_cells function (parameters_in area.now params.now)) out.old }
 {
     put(out, 0, Pair::new(params.len as u64, function));
-    let mut i = 0;
-    while i < params.len {
+    for i in 0..params.len {
         let row = row_for(
             area,
             params.codes[i],
@@ -30,7 +29,6 @@ pub(crate) fn write_list(params: Parameters, function: u64, area: &[u8], out: &m
             Pair::new(params.default_kinds[i], params.default_payloads[i]),
         );
         put_row(row, FRONT + ROW * i, out);
-        i += 1;
     }
 }
 
@@ -39,9 +37,14 @@ fn put_row(row: Row, at: usize, out: &mut [u64])
     requires { at + 6 ≤ length out.old }
     ensures { out.new ≡ stored out.old at (row_cells (row_in row)) }
 {
-    put(out, at, Pair::new(row.code, row.style));
-    put(out, at + 2, Pair::new(row.name, row.default_kind));
-    put(out, at + 4, Pair::new(row.default_payload, row.key));
+    out[at..at + ROW].copy_from_slice(&[
+        row.code,
+        row.style,
+        row.name,
+        row.default_kind,
+        row.default_payload,
+        row.key,
+    ]);
 }
 
 // The row of a parameter, from what the columns keep of it.
@@ -74,18 +77,12 @@ fn code_for(code: u8) -> u64
 fn style_for(style: u8) -> u64
     ensures { result ≡ rank (style_for style) }
 {
-    if style < 3 {
-        return style as u64;
-    }
-    3
+    (style as u64).min(3)
 }
 
 // Only code 3 has a default.
 fn default_for(code: u8, default: Pair) -> Pair
     ensures { pair_of result ≡ default_as code (pair_of default) }
 {
-    if code == 3 {
-        return default;
-    }
-    Pair::new(0, 0)
+    if code == 3 { default } else { Pair::new(0, 0) }
 }

@@ -1,16 +1,18 @@
 -- Laws of the items of a style: which codes and numbers are a style's, and that this is so of the parameter at an index; the mark behind a
 -- name; the items of parameters that are joined or tested alike; what a loop over the columns asks for.
 -- Assumes nothing.
+use Rattle.std.specs.List.{list_any, range_with_len}
 use mathlib.Core.Path.{◌≡◌, refl, sym, ap, ap₂, ◌∙◌}
 use mathlib.Core.Bool.{Bool, true, false, cond, ◌&&◌, false≢true}
 use mathlib.Core.List.{List, [], ◌∷◌, ◌++◌, map}
 use Prim.Native.Nat.{ℕ, zero, suc, ◌+◌, ◌-◌, ◌≤◌, ◌<◌}
 use native.Mathlib.Nat.{zero-add}
+use native.Mathlib.Numerals.{add-one}
 use native.Mathlib.Omega.{arith}
 use lib.Dec.{eqb}
 use lib.ListN.{get_or}
 use borrow.Author.Tests.{ne_eqb}
-use Rattle.rules.specs.Listing.{keep}
+use Rattle.rules.specs.Listing.{any, keep}
 use Rattle.rules.specs.Text.{bytes_at, text_in}
 use Rattle.rules.specs.Value.{Value, no_value}
 use Rattle.rules.specs.Parameters.{Style, pos_only, pos_or_named, named_only, no_more, rank, comes_before, act_of, Parameter}
@@ -57,6 +59,21 @@ pub Under-at
     → under s (parameter_at area p i) ≡ is_under s (get_or p.codes i 0) (get_or p.styles i 0)
 unfolding under is_under parameter_at parameter_of
 Under-at s area p i e = ap₂ (λ a b. a && b) (plain_any (get_or p.codes i 0) _ no_value) (rank_number (get_or p.styles i 0) s e)
+
+-- whether there is one, put to each index
+module _ (s : Style) (area : List ℕ) (p : Parameters) (e : comes_before s no_more ≡ true) where
+  any_range
+      : (i n : ℕ)
+      → list_any (λ k. is_under s (get_or p.codes k 0) (get_or p.styles k 0)) (range_with_len i n)
+      ≡ any (under s) (listed (parameter_at area p) i n)
+  any_range i zero = refl
+  any_range i (suc n) = rw (add-one, any_range (suc i) n, Under-at s area p i e)
+
+  pub any_under
+      : list_any (λ k. is_under s (get_or p.codes k 0) (get_or p.styles k 0)) (range_with_len 0 p.len)
+      ≡ any (under s) (parameters_in area p)
+  unfolding parameters_in
+  any_under = any_range 0 p.len
 
 -- ---- the mark
 

@@ -97,20 +97,11 @@ module _ (text marked : List ℕ) (line : Line) (out : List ℕ) (room : Room ((
   parts : line.at + length (between line.begun ++ (text ++ marked)) ≤ length out
   parts = rw (append-nil (text ++ marked)) at room
 
-  pub item_between : line.at + length (between line.begun) ≤ length out
-  item_between = put_front (between line.begun) (text ++ marked) line.at out parts
-
   module _ (held : List ℕ) (from : ℕ) (p : Put (between line.begun) line.at out held from) where
     behind : from + length (text ++ marked) ≤ length held
     behind = put_rest (between line.begun) (text ++ marked) line.at out parts held from p
 
-    pub item_name : from + length text ≤ length held
-    item_name = put_front text marked from held behind
-
     module _ (named : List ℕ) (end : ℕ) (q : Put text from held named end) where
-      pub item_mark : end + length marked ≤ length named
-      item_mark = put_rest text marked from held behind named end q
-
       pub item_added : (after : List ℕ) (r : Line) → r.begun ≡ true → Put marked end named after r.at → Added ((text ++ marked) ∷ []) line out after r
       item_added after r e m =
           record {

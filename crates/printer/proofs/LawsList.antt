@@ -3,6 +3,7 @@
 use mathlib.Core.Path.{◌≡◌, refl, sym, ap, ap₂, ◌∙◌}
 use mathlib.Core.Bool.{Bool, true, false, cond, not, ◌&&◌, ◌||◌}
 use mathlib.Core.List.{List, [], ◌∷◌, ◌++◌, map, append_assoc}
+use Rattle.std.specs.Prelude as std
 use mathlib.Core.Option.{Option, none, some}
 use Prim.Native.Nat.{ℕ, suc, ◌+◌, ◌≤◌}
 use native.Mathlib.Nat.{zero-add}
@@ -16,11 +17,9 @@ use Rattle.cells.specs.Out.{stored}
 use Rattle.builder.specs.Params.{parameters_in}
 use Rattle.builder.specs.Spec.{index_of}
 use Rattle.builder.specs.declared.spec.ParametersSpec.{ParametersSpec}
-use Rattle.builder.specs.declared.spec.Index.{Index}
-use Rattle.builder.specs.declared.spec.Index.TheVariants.{At, Absent}
 use Rattle.printer.specs.Items.{under}
 use Rattle.printer.specs.Line.{led, Room, Added}
-use Rattle.printer.specs.Printed.{given, star_for, positional_items, named_items, ListWritten}
+use Rattle.printer.specs.Printed.{star_for, positional_items, named_items, ListWritten}
 use Rattle.printer.specs.declared.line.Line.{Line}
 use Rattle.cells.proofs.LawsOut.{stored_first}
 use Rattle.printer.proofs.LawsLine.{join_led, room_same}
@@ -85,29 +84,29 @@ star_under qs =
 
 -- ---- the indices
 
-abbrev is_some : Option ℕ → Bool
-is_some none = false
-is_some (some i) = true
+abbrev found : Option ℕ → Bool
+found none = false
+found (some i) = true
 
-first_any : (test : Parameter → Bool) (i : ℕ) (qs : List Parameter) → is_some (first_from test i qs) ≡ any test qs
+first_any : (test : Parameter → Bool) (i : ℕ) (qs : List Parameter) → found (first_from test i qs) ≡ any test qs
 first_any test i [] = refl
 first_any test i (q ∷ qs) = go (test q) (first_any test (suc i) qs)
   where
-    go : (b : Bool) → is_some (first_from test (suc i) qs) ≡ any test qs → is_some (cond b (some i) (first_from test (suc i) qs)) ≡ (b || any test qs)
+    go : (b : Bool) → found (first_from test (suc i) qs) ≡ any test qs → found (cond b (some i) (first_from test (suc i) qs)) ≡ (b || any test qs)
     go true e = refl
     go false e = e
 
-given_some : (index : Index) → given index ≡ is_some (index_of index)
-given_some (At i) = refl
-given_some Absent = refl
+is_found : (index : std.Option ℕ) → std.is_some index ≡ found (index_of index)
+is_found (std.Some i) = refl
+is_found std.None = refl
 
-pub given_args : (index : Index) (qs : List Parameter) → index_of index ≡ args_index qs → given index ≡ has_args qs
+pub given_args : (index : std.Option ℕ) (qs : List Parameter) → index_of index ≡ args_index qs → std.is_some index ≡ has_args qs
 unfolding args_index has_args
-given_args index qs e = given_some index ∙ ap is_some e ∙ first_any (λ q. is_args q.kind) 0 qs
+given_args index qs e = is_found index ∙ ap found e ∙ first_any (λ q. is_args q.kind) 0 qs
 
-pub given_kwargs : (index : Index) (qs : List Parameter) → index_of index ≡ kwargs_index qs → given index ≡ has_kwargs qs
+pub given_kwargs : (index : std.Option ℕ) (qs : List Parameter) → index_of index ≡ kwargs_index qs → std.is_some index ≡ has_kwargs qs
 unfolding kwargs_index has_kwargs
-given_kwargs index qs e = given_some index ∙ ap is_some e ∙ first_any (λ q. is_kwargs q.kind) 0 qs
+given_kwargs index qs e = is_found index ∙ ap found e ∙ first_any (λ q. is_kwargs q.kind) 0 qs
 
 -- ---- the halves, by what the code asks
 

@@ -1,15 +1,17 @@
 -- Laws of names as they are printed: `**` and `*` taken off are prefixes taken off; and a prefix is taken off where it is the same as the
--- bytes in front, which it isn't where there are fewer. Assumes nothing.
-use mathlib.Core.Path.{◌≡◌, refl, sym, ap, ◌∙◌}
+-- bytes in front. Assumes nothing.
+use Rattle.std.specs.Prelude.{Option, Some, None, MatchOption}
+use Rattle.std.specs.Option.{unwrap_or}
+use Rattle.std.specs.Borrow.{Bor}
+use Rattle.std.specs.Cmp.Lexicographic.{pointwise}
+use mathlib.Core.Path.{◌≡◌, refl, ap, ◌∙◌}
 use mathlib.Core.Bool.{Bool, true, false, cond, ◌&&◌, and-false}
 use mathlib.Core.List.{List, [], ◌∷◌}
-use Prim.Native.Nat.{ℕ, ◌<◌}
-use native.Mathlib.Omega.{arith}
+use Prim.Native.Nat.{ℕ, ◌+◌}
 use lib.Dec.{eqb}
-use lib.ListN.{length, take, drop, length-take}
+use lib.ListN.{length, take, drop}
 use Rattle.rules.specs.Text.{same_bytes}
 use Rattle.rules.specs.Printed.{asterisk, without_double, without_single, printed_name}
-use Rattle.cells.proofs.LawsText.{same_bytes_length}
 use Rattle.printer.specs.Name.{without_prefix}
 
 -- ---- the two prefixes
@@ -42,16 +44,18 @@ both_prefixes bytes name double single n d s = s ∙ single_prefix double ∙ ap
 
 -- ---- a prefix
 
-pub prefix_short : (prefix bytes : List ℕ) → length bytes < length prefix → without_prefix prefix bytes ≡ bytes
+bytes_alike : (xs ys : List ℕ) → pointwise eqb xs ys ≡ same_bytes xs ys
+bytes_alike [] [] = refl
+bytes_alike [] (y ∷ ys) = refl
+bytes_alike (x ∷ xs) [] = refl
+bytes_alike (x ∷ xs) (y ∷ ys) = rw (bytes_alike xs ys)
+
+-- what is behind the prefix where there is one, and else the name
+pub behind_prefix
+    : (prefix : List ℕ) (name : Bor (List ℕ)) (r : Option (Bor (List ℕ)))
+    → MatchOption r (pointwise eqb (take (length prefix) name.now) prefix ≡ false)
+    (λ x. (pointwise eqb (take (length prefix) name.now) prefix ≡ true) × (x.now ≡ drop (length prefix) name.now) × (length x.now + length prefix ≡ length name.now))
+    → (unwrap_or r name).now ≡ without_prefix prefix name.now
 unfolding without_prefix
-prefix_short prefix bytes h =
-    rw (same_bytes_length (take (length prefix) bytes) prefix (λ e. omega (arith, e, length-take (length prefix) bytes)))
-
-module _ (prefix bytes : List ℕ) (is : Bool) (e : is ≡ same_bytes (take (length prefix) bytes) prefix) where
-  pub prefix_other : is ≡ false → without_prefix prefix bytes ≡ bytes
-  unfolding without_prefix
-  prefix_other f = ap (λ b. cond b (drop (length prefix) bytes) bytes) (sym e ∙ f)
-
-  pub prefix_taken : is ≡ true → without_prefix prefix bytes ≡ drop (length prefix) bytes
-  unfolding without_prefix
-  prefix_taken f = ap (λ b. cond b (drop (length prefix) bytes) bytes) (sym e ∙ f)
+behind_prefix prefix name None e = rw (← bytes_alike (take (length prefix) name.now) prefix, e)
+behind_prefix prefix name (Some x) e = rw (← bytes_alike (take (length prefix) name.now) prefix, e.0) e.1

@@ -1,5 +1,5 @@
 -- What printing a list promises (01, printed list): the answer and the output of the definition.
-use Rattle.std.specs.Prelude.{Bool, true, false, cond, List, [], ◌∷◌, ◌++◌, ◌≡◌, ℕ, ◌≤◌, length}
+use Rattle.std.specs.Prelude.{Result, Ok, Err, Bool, cond, List, [], ◌∷◌, ◌++◌, ◌≡◌, ℕ, ◌≤◌, length}
 use Rattle.rules.specs.Answer.{none}
 use Rattle.rules.specs.Cells.{over}
 use Rattle.rules.specs.Parameters.{Parameter, positional_only, args_index, kwargs_index}
@@ -8,28 +8,21 @@ use Rattle.rules.specs.Accessors.{Access, denied, gives, left_by}
 use Rattle.rules.specs.Printed.{items_of, either_way, name_only, slash_item, star_item, kwargs_item, printed, parameters_str}
 use Rattle.builder.specs.Params.{parameters_in}
 use Rattle.builder.specs.Spec.{index_of}
-use Rattle.builder.specs.declared.spec.Index.{Index}
-use Rattle.builder.specs.declared.spec.Index.TheVariants.{At, Absent}
+use Rattle.cells.specs.Question.{number_of}
+use Rattle.cells.specs.declared.question.Question.{Question}
 use Rattle.builder.specs.declared.spec.ParametersSpec.{ParametersSpec}
 use Rattle.printer.specs.Line.{Room}
 use Rattle.printer.specs.declared.line.Line.{Line}
-use Rattle.printer.specs.declared.Printed.{Printed}
-use Rattle.printer.specs.declared.Printed.TheVariants.{Length, Refused}
 
 -- the answer, as `rules` has it; no detail goes with these numbers
-abbrev pub access_in : Printed → Access
-access_in (Length k) = gives k
-access_in (Refused n) = denied n none
+abbrev pub access_in : Result ℕ Question → Access
+access_in (Ok k) = gives k
+access_in (Err q) = denied (number_of q) none
 
 -- the answer is the definition's, and so is what the output holds: the list and behind it what it held, or all that it held
-pub record Printing (cells area before after : List ℕ) (r : Printed) : Type 0 where
+pub record Printing (cells area before after : List ℕ) (r : Result ℕ Question) : Type 0 where
   pub answer : access_in r ≡ parameters_str 64 cells area before
   pub held : after ≡ left_by (parameters_str 64 cells area before) (printed (list_of cells area)) before
-
--- is there such a parameter?
-abbrev pub given : Index → Bool
-given (At i) = true
-given Absent = false
 
 -- `*args`, or `*` where something is given by name only
 abbrev pub star_for : Bool → Bool → List (List ℕ)

@@ -14,50 +14,41 @@ use builder::params::{CurrentParameterStyle, Parameters};
 
 // All items of a style, in their order.
 pub(crate) fn write_items(
-    params: Parameters,
+    params: &Parameters,
     area: &[u8],
     style: CurrentParameterStyle,
     line: Line,
     out: &mut [u8],
 ) -> Line
-    requires { (params.len ≤ 64) × (comes_before (style_of style) no_more ≡ true) × Room (items_of (under (style_of style)) (parameters_in area.now params)) line out.old }
-    ensures { Added (items_of (under (style_of style)) (parameters_in area.now params)) line out.old out.new result }
+    requires { (params.now.len ≤ 64) × (comes_before (style_of style) no_more ≡ true) × Room (items_of (under (style_of style)) (parameters_in area.now params.now)) line out.old }
+    ensures { Added (items_of (under (style_of style)) (parameters_in area.now params.now)) line out.old out.new result }
 {
     let mut end = line;
-    let mut i = 0;
-    while i < params.len {
+    for i in 0..params.len {
         end = write_parameter(params, i, area, style, end, out);
-        i += 1;
     }
     end
 }
 
 // Is there one?
-pub(crate) fn any_item(params: Parameters, style: CurrentParameterStyle) -> bool
-    requires { (params.len ≤ 64) × (comes_before (style_of style) no_more ≡ true) }
-    ensures { (area : List ℕ) → result ≡ any (under (style_of style)) (parameters_in area params) }
+pub(crate) fn any_item(params: &Parameters, style: CurrentParameterStyle) -> bool
+    requires { (params.now.len ≤ 64) × (comes_before (style_of style) no_more ≡ true) }
+    ensures { (area : List ℕ) → result ≡ any (under (style_of style)) (parameters_in area params.now) }
 {
-    let mut i = 0;
-    while i < params.len {
-        if is_under(params.codes[i], params.styles[i], style) {
-            return true;
-        }
-        i += 1;
-    }
-    false
+    (0..params.len).any(|i| is_under(params.codes[i], params.styles[i], style))
 }
 
 // The item of the parameter at an index, if it is one of the style.
 fn write_parameter(
-    params: Parameters,
+    params: &Parameters,
     i: usize,
     area: &[u8],
     style: CurrentParameterStyle,
     line: Line,
     out: &mut [u8],
 ) -> Line
-    requires { (i < 64) × (comes_before (style_of style) no_more ≡ true) × Room (items_of (under (style_of style)) (parameter_at area.now params i ∷ [])) line out.old }
-    ensures { Added (items_of (under (style_of style)) (parameter_at area.now params i ∷ [])) line out.old out.new result }
+    requires { (i < 64) × (comes_before (style_of style) no_more ≡ true) × Room (items_of (under (style_of style)) (parameter_at area.now params.now i ∷ [])) line out.old }
+    ensures { Added (items_of (under (style_of style)) (parameter_at area.now params.now i ∷ [])) line out.old out.new result }
 {
     let code = params.codes[i];
     if !is_under(code, params.styles[i], style) {

@@ -7,7 +7,7 @@ ghost use Rattle.printer.specs.Line.{between, mark_for, Room, Added};
 use cells::out::write_bytes;
 
 // How many bytes are written, and whether an item is.
-#[derive(Drop)]
+#[derive(Clone, Copy, Debug, PartialEq, Eq)]
 pub struct Line {
     pub at: usize,
     pub begun: bool,

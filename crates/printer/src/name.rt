@@ -6,7 +6,6 @@ ghost use Rattle.rules.specs.Printed.{printed_name};
 ghost use Rattle.printer.specs.Name.{without_prefix};
 
 use builder::params::bytes_at;
-use cells::text::same;
 
 // The name of a payload. Where three stars stand in front all of them go, and of four one is left.
 pub(crate) fn printed_name<'a>(area: &'a [u8], payload: u64) -> &'a [u8]
@@ -20,12 +19,5 @@ pub(crate) fn printed_name<'a>(area: &'a [u8], payload: u64) -> &'a [u8]
 fn strip_prefix<'a, 'b>(name: &'a [u8], prefix: &'b [u8]) -> &'a [u8]
     ensures { result.now ≡ without_prefix prefix.now name.now }
 {
-    let size = prefix.len();
-    if name.len() < size {
-        return name;
-    }
-    if !same(&name[..size], prefix) {
-        return name;
-    }
-    &name[size..]
+    name.strip_prefix(prefix).unwrap_or(name)
 }

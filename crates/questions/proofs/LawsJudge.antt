@@ -1,33 +1,22 @@
 -- Laws of the questions of binding as the code asks them: what it answers is what 15 to 24 answer.
 -- Assumes nothing.
 use mathlib.Core.Path.{◌≡◌, refl}
-use mathlib.Core.Bool.{true, false, not, ◌&&◌, false≢true}
+use mathlib.Core.Bool.{not, ◌&&◌}
 use mathlib.Core.List.{List}
-use mathlib.Core.Option.{Option, none, some}
-use Prim.Native.Nat.{ℕ, zero, suc, ◌-◌, ◌≤◌, ◌<◌}
+use mathlib.Core.Option.{some}
+use Prim.Native.Nat.{ℕ, zero, suc, ◌-◌, ◌<◌}
 use native.Mathlib.Omega.{arith}
-use borrow.Author.Tests.{ltb-true, le-ltb}
 use lib.Dec.{eqb}
 use lib.ListN.{get_or}
 use Rattle.rules.proofs.LawsIndex.{first_index_some}
 use Rattle.findings.specs.Found.{first_named, first_missing}
-use Rattle.questions.specs.Judge.{missing_as, lost_to}
-use Rattle.answers.specs.declared.answer.Collected.TheVariants.{MissingNamedOnly}
+use Rattle.questions.specs.Judge.{missing_as}
+use Rattle.answers.specs.declared.answer.Refusal.TheVariants.{MissingNamedOnly}
 
 pub missing_other : (style name : ℕ) → (style ≡ 0 → ⊥) → (style ≡ 1 → ⊥) → MissingNamedOnly name ≡ missing_as style name
 missing_other zero name a b = absurd (a refl)
 missing_other (suc zero) name a b = absurd (b refl)
 missing_other (suc (suc n)) name a b = refl
-
--- ---- what is left over
-
-pub lost_not : (count room : ℕ) → count ≤ room → (o : Option ℕ) → lost_to count room o ≡ false
-lost_not count room h none = le-ltb room count h
-lost_not count room h (some k) = refl
-
-pub lost_more : (count room : ℕ) (o : Option ℕ) → lost_to count room o ≡ true → room < count
-lost_more count room none e = ltb-true room count e
-lost_more count room (some k) e = absurd (false≢true e)
 
 -- ---- what is found is an index of the list
 

@@ -26,19 +26,18 @@ use Rattle.builder.specs.Params.{parameter_of, parameter_at, parameters_in}
 use Rattle.builder.specs.declared.spec.ParametersSpec.{ParametersSpec}
 use Rattle.cells.proofs.LawsListed.{length_listed}
 use Rattle.calls.specs.Head.{named_from, entries_from}
-use Rattle.answers.specs.Answer.{answer_in}
+use Rattle.answers.specs.Answer.{answer_in, entry_refused}
 use Rattle.findings.specs.Resolved.{named_at, Resolved}
 use Rattle.findings.specs.Resolve.{pairs_from}
 use Rattle.findings.specs.Found.{first_named, first_missing}
 use Rattle.findings.specs.EntriesDone.{written_names, entry_at, entries_in, entries_answer, EntriesReady, EntriesDone}
 use Rattle.questions.specs.Judge.{lost_to, missing_as, first_of, refused_at, star_as, repeats_as, required_as, surplus_as, unknown_as, placed_as, judged_answer, refusing}
 use Rattle.questions.specs.Questions.{ask_after_names, CallReady, Judging}
-use Rattle.answers.specs.declared.answer.Collected.{Collected}
-use Rattle.answers.specs.declared.answer.Collected.TheVariants.{ArgsArrayIsNotIterable, RepeatedParameter, ExtraPositionalArg, ExtraNamedArg}
-use Rattle.findings.specs.declared.entries.Entries.{Entries}
-use Rattle.findings.specs.declared.entries.Entries.TheVariants.{All}
-use Rattle.questions.specs.declared.judge.Judged.{Judged}
-use Rattle.questions.specs.declared.judge.Judged.TheVariants.{Fine, Refused}
+use Rattle.std.specs.Prelude.{Result, Ok, Err}
+use Rattle.answers.specs.declared.answer.Refusal.{Refusal}
+use Rattle.answers.specs.declared.answer.Refusal.TheVariants.{ArgsArrayIsNotIterable, RepeatedParameter, ExtraPositionalArg, ExtraNamedArg}
+use Rattle.answers.specs.declared.answer.EntryRefusal.{EntryRefusal}
+use Rattle.answers.specs.declared.answer.EntryRefusal.TheVariants.{NotText, Repeated}
 use Rattle.findings.proofs.LawsAsked.{repeated_at}
 use Rattle.findings.proofs.LawsNames.{few_list}
 use Rattle.slots.proofs.LawsPlaced.{parameter, repeats_found}
@@ -70,13 +69,14 @@ words_named area cells from qs P before k (suc n) e =
 
 -- ---- the count that 20 to 24 hand on
 
-fine_count : (a b : Bool) (o : Option ℕ) (missing : ℕ → Collected) (x y : Collected) (kept n : ℕ) → first_of (cond a (Refused x) (Fine kept)) (first_of (refused_at o missing kept) (cond b (Refused y) (Fine kept))) ≡ Fine n → kept ≡ n
-fine_count true b o missing x y kept n e = let z : ◌≡◌ {A = ℕ} 0 1 = cc in absurd (omega arith)
-fine_count false b (some i) missing x y kept n e = let z : ◌≡◌ {A = ℕ} 0 1 = cc in absurd (omega arith)
-fine_count false true none missing x y kept n e = let z : ◌≡◌ {A = ℕ} 0 1 = cc in absurd (omega arith)
+fine_count : (a b : Bool) (o : Option ℕ) (missing : ℕ → Refusal) (x y : Refusal) (kept n : ℕ)
+    → first_of (cond a (Err x) (Ok tt)) (first_of (refused_at o missing) (first_of (cond b (Err y) (Ok tt)) (Ok kept))) ≡ Ok n → kept ≡ n
+fine_count true b o missing x y kept n e = absurd cc
+fine_count false b (some i) missing x y kept n e = absurd cc
+fine_count false true none missing x y kept n e = absurd cc
 fine_count false false none missing x y kept n e = cc
 
-placed_count : (l : ParametersSpec) (cells : List ℕ) (h : Head) (next : ℕ) (sources rest : List ℕ) (kept n : ℕ) → placed_as l.params.codes l.params.styles l.params.names l.params.len l.indices cells h next sources rest kept ≡ Fine n → kept ≡ n
+placed_count : (l : ParametersSpec) (cells : List ℕ) (h : Head) (next : ℕ) (sources rest : List ℕ) (kept n : ℕ) → placed_as l cells h next sources rest kept ≡ Ok n → kept ≡ n
 unfolding placed_as required_as surplus_as unknown_as
 placed_count l cells h next sources rest kept n e =
     fine_count (lost_to kept 0 (index_of l.indices.kwargs)) (lost_to (h.p + h.s) l.indices.num_positional (index_of l.indices.args)) (first_missing l.params.codes sources next (l.params.len - next))
@@ -84,30 +84,39 @@ placed_count l cells h next sources rest kept n e =
 
 -- ---- a refusal, which resolves nothing
 
--- 20 to 24 hand on no acceptance
-placed_refusing : (l : ParametersSpec) (cells : List ℕ) (h : Head) (next : ℕ) (sources rest : List ℕ) (count : ℕ) → refusing (placed_as l.params.codes l.params.styles l.params.names l.params.len l.indices cells h next sources rest count) ≡ true
+-- 20 to 24 hand on no other refusal
+placed_refusing : (l : ParametersSpec) (cells : List ℕ) (h : Head) (next : ℕ) (sources rest : List ℕ) (count : ℕ) → refusing (placed_as l cells h next sources rest count) ≡ true
 unfolding placed_as required_as surplus_as unknown_as
 placed_refusing l cells h next sources rest count =
     first (lost_to count 0 (index_of l.indices.kwargs)) (first_missing l.params.codes sources next (l.params.len - next))
     (lost_to (h.p + h.s) l.indices.num_positional (index_of l.indices.args))
   where
-    styled : (style payload : ℕ) → refusing (Refused (missing_as style payload)) ≡ true
+    styled : (style payload : ℕ) → refusing (Err (missing_as style payload)) ≡ true
     styled zero payload = refl
     styled (suc zero) payload = refl
     styled (suc (suc style)) payload = refl
 
     first : (a : Bool) (o : Option ℕ) (b : Bool)
         → refusing
-        (first_of (cond a (Refused (ExtraNamedArg count (pair_at cells (get_or rest 0 0)).payload)) (Fine count))
-        (first_of (refused_at o (λ i. missing_as (get_or l.params.styles i 0) (get_or l.params.names i 0)) count) (cond b (Refused (ExtraPositionalArg (h.p + h.s - l.indices.num_positional))) (Fine count))))
+        (first_of (cond a (Err (ExtraNamedArg count (pair_at cells (get_or rest 0 0)).payload)) (Ok tt))
+        (first_of (refused_at o (λ i. missing_as (get_or l.params.styles i 0) (get_or l.params.names i 0))) (first_of (cond b (Err (ExtraPositionalArg (h.p + h.s - l.indices.num_positional))) (Ok tt)) (Ok count))))
         ≡ true
     first true o b = refl
     first false (some i) b = styled (get_or l.params.styles i 0) (get_or l.params.names i 0)
     first false none true = refl
     first false none false = refl
 
-pub judged_refused : (qs : List Parameter) (c : Call) (cells area : List ℕ) (asked : Answer) (sources rest : List ℕ) (a : Collected) → refusing (Refused a) ≡ true → answer_in a ≡ asked → Judging qs c cells area asked sources rest (Refused a)
-judged_refused qs c cells area asked sources rest a u e = record { answer = e; refusal = u; resolved = λ count f. let z : ◌≡◌ {A = ℕ} 0 1 = cc in absurd (omega arith) }
+pub judged_refused : (qs : List Parameter) (c : Call) (cells area : List ℕ) (asked : Answer) (sources rest : List ℕ) (a : Refusal) → refusing (Err a) ≡ true → answer_in (Err a) ≡ asked → Judging qs c cells area asked sources rest (Err a)
+judged_refused qs c cells area asked sources rest a u e = record { answer = e; refusal = u; resolved = λ count f. absurd cc }
+
+-- an entry's refusal is collection's
+pub entry_refusing : (e : EntryRefusal) → refusing (Err (entry_refused e)) ≡ true
+entry_refusing NotText = refl
+entry_refusing (Repeated payload) = refl
+
+entry_told : (e : EntryRefusal) → answer_in (Err (entry_refused e)) ≡ entries_answer (Err e)
+entry_told NotText = refl
+entry_told (Repeated payload) = refl
 
 module _ (spec : List ℕ) (l : ParametersSpec) (cells area : List ℕ) (h : Head) (next : ℕ) (c : Call) (ready : CallReady spec l cells area h next c) where
   abbrev qs : List Parameter
@@ -146,35 +155,47 @@ module _ (spec : List ℕ) (l : ParametersSpec) (cells area : List ℕ) (h : Hea
           ∙ repeats_found spec l ready.list cells area P (written_names area cells h) sources rest before next ready.upto r
           ∙ ap (repeated_at (parameter spec l ready.list)) e)
 
-      asked_repeated : (i : ℕ) → first_named sources 0 next ≡ some i → answer_in (RepeatedParameter (get_or l.params.names i 0)) ≡ ask_binding qs c
+      asked_repeated : (i : ℕ) → first_named sources 0 next ≡ some i → answer_in (Err (RepeatedParameter (get_or l.params.names i 0))) ≡ ask_binding qs c
       unfolding parameter_at parameter_of part_of text_in
       asked_repeated i e = sym (repeats (some i) e)
 
-  module _ (sources rest : List ℕ) (before : ℕ) (r : Resolved qs cells area (written_names area cells h) sources rest before) where
-    -- a refusal by 15 or 16 is the call's
-    pub asked_written : (a : Collected) → first_of (star_as h before) (repeats_as l.params.names next sources before) ≡ Refused a → (refusing (Refused a) ≡ true) × (answer_in a ≡ ask_binding qs c)
-    unfolding star_as repeats_as
-    asked_written a = go (eqb h.star_kind 2) refl (first_named sources 0 next) refl
+  -- a refusal by 15 is the call's
+  pub star_refused : (a : Refusal) → star_as h ≡ Err a → (refusing (Err a) ≡ true) × (answer_in (Err a) ≡ ask_binding qs c)
+  unfolding star_as
+  star_refused a = go (eqb h.star_kind 2) refl
+    where
+      go : (b : Bool) → eqb h.star_kind 2 ≡ b → ◌≡◌ {A = Result Unit Refusal} (cond b (Err ArgsArrayIsNotIterable) (Ok tt)) (Err a) → (refusing (Err a) ≡ true) × (answer_in (Err a) ≡ ask_binding qs c)
+      go true e g = let same : ArgsArrayIsNotIterable ≡ a = cc in subst (λ x. (refusing (Err x) ≡ true) × (answer_in (Err x) ≡ ask_binding qs c)) same (refl, asked_star (eqb-true h.star_kind 2 e))
+      go false e g = absurd cc
+
+  iterable_of : (u : Unit) → star_as h ≡ Ok u → h.star_kind ≡ 2 → ⊥
+  unfolding star_as
+  iterable_of u = go (eqb h.star_kind 2) refl
+    where
+      go : (b : Bool) → eqb h.star_kind 2 ≡ b → ◌≡◌ {A = Result Unit Refusal} (cond b (Err ArgsArrayIsNotIterable) (Ok tt)) (Ok u) → h.star_kind ≡ 2 → ⊥
+      go true e g = absurd cc
+      go false e g = eqb-false h.star_kind 2 e
+
+  module _ (u : Unit) (star : star_as h ≡ Ok u) (sources rest : List ℕ) (before : ℕ) (r : Resolved qs cells area (written_names area cells h) sources rest before) where
+    -- so is one by 16, where 15 does not refuse
+    pub repeats_refused : (a : Refusal) → repeats_as l.params next sources ≡ Err a → (refusing (Err a) ≡ true) × (answer_in (Err a) ≡ ask_binding qs c)
+    unfolding repeats_as
+    repeats_refused a = go (first_named sources 0 next) refl
       where
-        go : (b : Bool) → eqb h.star_kind 2 ≡ b → (o : Option ℕ) → first_named sources 0 next ≡ o
-            → first_of (cond b (Refused ArgsArrayIsNotIterable) (Fine before)) (refused_at o (λ i. RepeatedParameter (get_or l.params.names i 0)) before) ≡ Refused a
-            → (refusing (Refused a) ≡ true) × (answer_in a ≡ ask_binding qs c)
-        go true e o f g = let same : ArgsArrayIsNotIterable ≡ a = cc in subst (λ x. (refusing (Refused x) ≡ true) × (answer_in x ≡ ask_binding qs c)) same (refl, asked_star (eqb-true h.star_kind 2 e))
-        go false e (some i) f g =
+        go : (o : Option ℕ) → first_named sources 0 next ≡ o → refused_at o (λ i. RepeatedParameter (get_or l.params.names i 0)) ≡ Err a → (refusing (Err a) ≡ true) × (answer_in (Err a) ≡ ask_binding qs c)
+        go (some i) f g =
             let same : RepeatedParameter (get_or l.params.names i 0) ≡ a = cc in
-            subst (λ x. (refusing (Refused x) ≡ true) × (answer_in x ≡ ask_binding qs c)) same (refl, asked_repeated (eqb-false h.star_kind 2 e) sources rest before r i f)
-        go false e none f g = let z : ◌≡◌ {A = ℕ} 0 1 = cc in absurd (omega arith)
+            subst (λ x. (refusing (Err x) ≡ true) × (answer_in (Err x) ≡ ask_binding qs c)) same (refl, asked_repeated (iterable_of u star) sources rest before r i f)
+        go none f g = absurd cc
 
     -- where neither refuses, 17 to 24 are left
-    pub asked_names : (n : ℕ) → first_of (star_as h before) (repeats_as l.params.names next sources before) ≡ Fine n → ask_after_names qs c ≡ ask_binding qs c
-    unfolding star_as repeats_as
-    asked_names n = go (eqb h.star_kind 2) refl (first_named sources 0 next) refl
+    pub asked_names : (v : Unit) → repeats_as l.params next sources ≡ Ok v → ask_after_names qs c ≡ ask_binding qs c
+    unfolding repeats_as
+    asked_names v = go (first_named sources 0 next) refl
       where
-        go : (b : Bool) → eqb h.star_kind 2 ≡ b → (o : Option ℕ) → first_named sources 0 next ≡ o
-            → first_of (cond b (Refused ArgsArrayIsNotIterable) (Fine before)) (refused_at o (λ i. RepeatedParameter (get_or l.params.names i 0)) before) ≡ Fine n → ask_after_names qs c ≡ ask_binding qs c
-        go true e o f g = let z : ◌≡◌ {A = ℕ} 0 1 = cc in absurd (omega arith)
-        go false e (some i) f g = let z : ◌≡◌ {A = ℕ} 0 1 = cc in absurd (omega arith)
-        go false e none f g = sym (repeats (eqb-false h.star_kind 2 e) sources rest before r none f)
+        go : (o : Option ℕ) → first_named sources 0 next ≡ o → refused_at o (λ i. RepeatedParameter (get_or l.params.names i 0)) ≡ Ok v → ask_after_names qs c ≡ ask_binding qs c
+        go (some i) f g = absurd cc
+        go none f g = sym (repeats (iterable_of u star) sources rest before r none f)
 
   -- ---- 17 to 19
 
@@ -182,7 +203,7 @@ module _ (spec : List ℕ) (l : ParametersSpec) (cells area : List ℕ) (h : Hea
   unfolding ask_after_names
   asked_double e = rw (ready.double, eq-eqb h.double_kind 2 e)
 
-  module _ (dictionary : h.double_kind ≡ 2 → ⊥) (sources rest : List ℕ) (r : Entries) (done : EntriesDone spec l cells area h next sources rest r) where
+  module _ (dictionary : h.double_kind ≡ 2 → ⊥) (sources rest : List ℕ) (r : Result ℕ EntryRefusal) (done : EntriesDone spec l cells area h next sources rest r) where
     entries_asked : entries_answer r ≡ ask_entries qs P c.named (entries_of c.double)
     entries_asked = done.answer P ready.upto ∙ sym (ap₂ (ask_entries qs P) ready.written ready.entries)
 
@@ -190,12 +211,16 @@ module _ (spec : List ℕ) (l : ParametersSpec) (cells area : List ℕ) (h : Hea
     unfolding ask_after_names
     after_double = rw (ready.double, ne_eqb h.double_kind 2 dictionary, ← entries_asked)
 
-    pub asked_entries : (n : ℕ) (d : Detail) → entries_answer r ≡ refuse n d → refuse n d ≡ ask_after_names qs c
-    asked_entries n d e = sym (after_double ∙ ap (λ a. a then ask_placed qs P (named_of c)) e)
+    pub asked_entries : (e : EntryRefusal) → r ≡ Err e → answer_in (Err (entry_refused e)) ≡ ask_after_names qs c
+    asked_entries e is = entry_told e ∙ sym (after_double ∙ ap (λ a. a then ask_placed qs P (named_of c)) (ap entries_answer is) ∙ refused_then e)
+      where
+        refused_then : (e : EntryRefusal) → (entries_answer (Err e) then ask_placed qs P (named_of c)) ≡ entries_answer (Err e)
+        refused_then NotText = refl
+        refused_then (Repeated payload) = refl
 
     -- ---- 20 to 24
 
-    module _ (count : ℕ) (all : r ≡ All count) where
+    module _ (count : ℕ) (all : r ≡ Ok count) where
       named_are : written_names area cells h ++ pairs_from area cells (entries_from h) h.d ≡ named_of c
       unfolding named_of
       named_are =
@@ -218,7 +243,7 @@ module _ (spec : List ℕ) (l : ParametersSpec) (cells area : List ℕ) (h : Hea
             ready.few.few_d,
           )
 
-      pub judged_placed : (judged : Judged) → judged ≡ placed_as l.params.codes l.params.styles l.params.names l.params.len l.indices cells h next sources rest count → Judging qs c cells area (ask_after_names qs c) sources rest judged
+      pub judged_placed : (judged : Result ℕ Refusal) → judged ≡ placed_as l cells h next sources rest count → Judging qs c cells area (ask_after_names qs c) sources rest judged
       judged_placed judged is =
           record {
             answer =

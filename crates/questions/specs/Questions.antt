@@ -1,23 +1,21 @@
 -- What asking 15 to 24 of a call needs and promises.
-use Rattle.std.specs.Prelude.{◌≡◌, true, not, List, ℕ, ◌+◌, ◌*◌, min, ◌<◌, eqb, length, get_or}
+use Rattle.std.specs.Prelude.{◌≡◌, true, not, List, ℕ, ◌+◌, ◌*◌, min, ◌<◌, eqb, length, get_or, Result, Ok}
 use Rattle.rules.specs.Value.{no_value, well_formed_key}
 use Rattle.rules.specs.Answer.{Answer, ◌then◌, ask}
-use Rattle.rules.specs.CallRecord.{Head, Call, Named, entries_of, positionals_of, named_of}
+use Rattle.rules.specs.CallRecord.{Head, Call, entries_of, positionals_of, named_of}
 use Rattle.rules.specs.Parameters.{Parameter, positional_count}
 use Rattle.rules.specs.Collection.{call_of}
 use Rattle.rules.specs.Binding.{star_passes, double_passes, ask_entries, ask_placed}
 use Rattle.cells.specs.Record.{pair_at}
 use Rattle.builder.specs.Params.{parameters_in}
-use Rattle.builder.specs.declared.spec.DefParamIndices.{DefParamIndices}
 use Rattle.builder.specs.declared.spec.ParametersSpec.{ParametersSpec}
 use Rattle.calls.specs.Head.{Few, named_from, entries_from}
 use Rattle.findings.specs.Resolved.{Resolved}
-use Rattle.findings.specs.Resolve.{Prepared, Pairs, lent_list}
+use Rattle.findings.specs.Resolve.{Prepared, Pairs}
 use Rattle.findings.specs.EntriesDone.{written_names, entries_in}
 use Rattle.calls.specs.Values.{positional_at}
 use Rattle.questions.specs.Judge.{judged_answer, refusing}
-use Rattle.questions.specs.declared.judge.Judged.{Judged}
-use Rattle.questions.specs.declared.judge.Judged.TheVariants.{Fine}
+use Rattle.answers.specs.declared.answer.Refusal.{Refusal}
 
 -- 17 to 24, which come after the written names
 unfoldable pub ask_after_names : List Parameter → Call → Answer
@@ -41,28 +39,17 @@ pub record CallReady (spec : List ℕ) (l : ParametersSpec) (cells area : List �
   pub upto : next ≡ min (length (positionals_of c)) (positional_count (parameters_in spec l.params))
 
 -- the answer is 01's, and without a refusal every name of N is resolved
-pub record Judging (qs : List Parameter) (c : Call) (cells area : List ℕ) (asked : Answer) (sources rest : List ℕ) (r : Judged) : Type 0 where
+pub record Judging (qs : List Parameter) (c : Call) (cells area : List ℕ) (asked : Answer) (sources rest : List ℕ) (r : Result ℕ Refusal) : Type 0 where
   pub answer : judged_answer r ≡ asked
   pub refusal : refusing r ≡ true
-  pub resolved : (count : ℕ) → r ≡ Fine count → Resolved qs cells area (named_of c) sources rest count
+  pub resolved : (count : ℕ) → r ≡ Ok count → Resolved qs cells area (named_of c) sources rest count
 
--- ---- a list that is lent by its columns
+-- a call that is asked against a prepared list, its written names resolved
+pub record JudgeReady (spec : List ℕ) (l : ParametersSpec) (cells area : List ℕ) (h : Head) (next : ℕ) (sources rest : List ℕ) (count : ℕ) : Type 0 where
+  pub call : CallReady spec l cells area h next (call_of cells area)
+  pub resolved : Resolved (parameters_in spec l.params) cells area (written_names area cells h) sources rest count
 
--- the columns that names are looked up in, with the indices, and two columns of defaults make a list
-abbrev pub lent_with : (codes styles names : List ℕ) (len : ℕ) → DefParamIndices → (kinds payloads : List ℕ) → ParametersSpec
-lent_with codes styles names len indices kinds payloads = lent_list codes styles names len (record { kinds = kinds; payloads = payloads; indices = indices })
-
--- they are those of a prepared list, and the names in N are resolved
-pub record ListLent (spec codes styles names : List ℕ) (len : ℕ) (indices : DefParamIndices) (cells area : List ℕ) (h : Head) (next : ℕ) (N : List Named) (sources rest : List ℕ) (count : ℕ) : Type 0 where
-  pub kinds : List ℕ
-  pub payloads : List ℕ
-  pub call : CallReady spec (lent_with codes styles names len indices kinds payloads) cells area h next (call_of cells area)
-  pub resolved : Resolved (parameters_in spec (lent_with codes styles names len indices kinds payloads).params) cells area N sources rest count
-
--- and then `asked` is answered of each such list that has these columns
-abbrev pub JudgedLent : (spec codes styles names : List ℕ) (len : ℕ) (indices : DefParamIndices) (cells area : List ℕ) (h : Head) (next : ℕ) (N : List Named) (sources rest : List ℕ) (count : ℕ)
-    → (List Parameter → Call → Answer) → (sources₁ rest₁ : List ℕ) → Judged → Type 0
-JudgedLent spec codes styles names len indices cells area h next N sources rest count asked sources₁ rest₁ r =
-    (kinds payloads : List ℕ) → CallReady spec (lent_with codes styles names len indices kinds payloads) cells area h next (call_of cells area)
-    → Resolved (parameters_in spec (lent_with codes styles names len indices kinds payloads).params) cells area N sources rest count
-    → Judging (parameters_in spec (lent_with codes styles names len indices kinds payloads).params) (call_of cells area) cells area (asked (parameters_in spec (lent_with codes styles names len indices kinds payloads).params) (call_of cells area)) sources₁ rest₁ r
+-- what is answered of it is what `asked` answers
+abbrev pub Judges : (spec : List ℕ) (l : ParametersSpec) (cells area : List ℕ) → (List Parameter → Call → Answer) → (sources rest : List ℕ) → Result ℕ Refusal → Type 0
+Judges spec l cells area asked sources rest r =
+    Judging (parameters_in spec l.params) (call_of cells area) cells area (asked (parameters_in spec l.params) (call_of cells area)) sources rest r

@@ -1,20 +1,21 @@
 -- What an answer of the code means in 01's numbers and pairs, what a parser has left, and what it is after a read (01, slot reader).
 -- One read itself is defined in `rules`.
-use Rattle.std.specs.Prelude.{◌≡◌, cond, List, [], ◌∷◌, ℕ}
+use Rattle.std.specs.Prelude.{Option, Some, None, Result, Ok, Err, ◌≡◌, cond, List, [], ◌∷◌, ℕ}
 use Rattle.rules.specs.Value.{Value}
 use Rattle.rules.specs.Reader.{Read, unread, holds, vacant, is_vacant, left_at, position_after}
 use Rattle.cells.specs.Value.{pair_of}
-use Rattle.reader.specs.declared.Next.{Next}
-use Rattle.reader.specs.declared.Next.TheVariants as next
+use Rattle.cells.specs.declared.value.Pair.{Pair}
+use Rattle.reader.specs.declared.ReadError.{ReadError}
+use Rattle.reader.specs.declared.ReadError.TheVariants.{NoMore, Unfilled}
 use Rattle.reader.specs.declared.Reading.{Reading}
 use Rattle.reader.specs.declared.ParametersParser.{ParametersParser}
 
 -- an answer: the pair of a filled slot, an empty slot, or 01's number
-abbrev pub read_of : Next → Read
-read_of (next.Value pair) = holds (pair_of pair)
-read_of next.Empty = vacant
-read_of next.NoMore = unread 27
-read_of next.Unfilled = unread 28
+abbrev pub read_of : Result (Option Pair) ReadError → Read
+read_of (Ok (Some pair)) = holds (pair_of pair)
+read_of (Ok None) = vacant
+read_of (Err NoMore) = unread 27
+read_of (Err Unfilled) = unread 28
 
 -- a read of either sort: `empty` is its answer for an empty slot
 abbrev pub read_or : Read → List Value → Read

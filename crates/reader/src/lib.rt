@@ -9,23 +9,20 @@ ghost use Rattle.reader.specs.Parser.{read_of, read_or, left_of, moved_on, Reads
 
 use cells::value::Pair;
 
-// What a read answers.
-#[derive(Drop)]
-pub enum Next {
-    // The two cells of a filled slot, as they stand there.
-    Value(Pair),
-    // An optional value whose slot is empty.
-    Empty,
+// Why a read answers no value.
+#[derive(Clone, Copy, Debug, PartialEq, Eq)]
+pub enum ReadError {
     // 27: no slot is left.
     NoMore,
     // 28: a needed value whose slot is empty.
     Unfilled,
 }
 
-// What a read answers, and the position where it leaves the reader.
-#[derive(Drop)]
+// What a read answers, and the position where it leaves the reader. The answer is the two cells of a filled slot, as they stand there; none for an
+// optional value whose slot is empty.
+#[derive(Clone, Copy)]
 pub struct Reading {
-    pub next: Next,
+    pub next: Result<Option<Pair>, ReadError>,
     pub at: usize,
 }
 
@@ -44,21 +41,21 @@ impl<'a> ParametersParser<'a> {
     }
 
     // A needed value.
-    pub fn next(&mut self) -> Next
+    pub fn next(&mut self) -> Result<Option<Pair>, ReadError>
         ensures { (read_of result ≡ read_needed (left_of self.old)) × (self.new ≡ moved_on self.old) }
     {
-        self.read(Next::Unfilled)
+        self.read(Err(ReadError::Unfilled))
     }
 
     // An optional value.
-    pub fn next_opt(&mut self) -> Next
+    pub fn next_opt(&mut self) -> Result<Option<Pair>, ReadError>
         ensures { (read_of result ≡ read_optional (left_of self.old)) × (self.new ≡ moved_on self.old) }
     {
-        self.read(Next::Empty)
+        self.read(Ok(None))
     }
 
     // A read of either sort (the Rust's `get_next`); `empty` is its answer for an empty slot.
-    fn read(&mut self, empty: Next) -> Next
+    fn read(&mut self, empty: Result<Option<Pair>, ReadError>) -> Result<Option<Pair>, ReadError>
         ensures { (read_of result ≡ read_or (read_of empty) (left_of self.old)) × (self.new ≡ moved_on self.old) }
     {
         let slots = self.slots;
@@ -81,16 +78,16 @@ impl<'a> ParametersParser<'a> {
 pub fn read_next(slots: &[u64], at: usize) -> Reading
     ensures { Reads read_needed slots.now at result }
 {
-    read_once(slots, at, Next::Unfilled)
+    read_once(slots, at, Err(ReadError::Unfilled))
 }
 
 pub fn read_next_opt(slots: &[u64], at: usize) -> Reading
     ensures { Reads read_optional slots.now at result }
 {
-    read_once(slots, at, Next::Empty)
+    read_once(slots, at, Ok(None))
 }
 
-fn read_once(slots: &[u64], at: usize, empty: Next) -> Reading
+fn read_once(slots: &[u64], at: usize, empty: Result<Option<Pair>, ReadError>) -> Reading
     ensures { Reads (read_or (read_of empty)) slots.now at result }
 {
     let mut parser = ParametersParser { slots, at };
@@ -110,13 +107,13 @@ pub fn read_is_eof(slots: &[u64], at: usize) -> bool
 
 // The work: what a read answers at a position of some cells. A position may be any number at all, so it is compared with the number of
 // slots before it is doubled.
-fn read_at(cells: &[u64], at: usize, empty: Next) -> Reading
+fn read_at(cells: &[u64], at: usize, empty: Result<Option<Pair>, ReadError>) -> Reading
     ensures { Reads (read_or (read_of empty)) cells.now at result }
 {
     let slots = cells.len() / 2;
     if slots <= at {
         return Reading {
-            next: Next::NoMore,
+            next: Err(ReadError::NoMore),
             at,
         };
     }
@@ -129,7 +126,7 @@ fn read_at(cells: &[u64], at: usize, empty: Next) -> Reading
         };
     }
     Reading {
-        next: Next::Value(Pair::new(kind, cells[2 * at + 1])),
+        next: Ok(Some(Pair::new(kind, cells[2 * at + 1]))),
         at: after,
     }
 }

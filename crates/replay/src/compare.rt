@@ -2,7 +2,6 @@
 ghost use Rattle.std.specs.Prelude.{◌≡◌, length};
 
 use crate::numbers::{behind, counted, from_to, number, piece, read_area, take};
-use std::num::wrapping_add_u64;
 
 // Room for a board with cells to spare, and for the values or the pairs of one call.
 const BOARD: usize = 1024;
@@ -11,7 +10,7 @@ const JOINED: usize = 512;
 
 // A case: the section of the input, its number there, and which of its parts, a cut, a read, a slot or an accessor, each from 1; part 0 is the
 // case itself.
-#[derive(Clone, Copy)]
+#[derive(Clone, Copy, Debug, PartialEq, Eq)]
 pub struct Place {
     section: u64,
     case: u64,
@@ -23,7 +22,7 @@ impl Place {
     pub fn new(section: u64, before: u64) -> Self {
         Place {
             section,
-            case: wrapping_add_u64(before, 1),
+            case: before.wrapping_add(1),
             part: 0,
         }
     }
@@ -33,7 +32,7 @@ impl Place {
         Place {
             section: self.section,
             case: self.case,
-            part: wrapping_add_u64(before, 1),
+            part: before.wrapping_add(1),
         }
     }
 
@@ -92,11 +91,8 @@ pub fn same_numbers(
     got: [u64; 5],
 ) -> bool {
     let mut fine = true;
-    let mut i = 0;
-    while i < n {
-        let one = same_at(place, what, i, take(numbers, at), number(&got, i));
-        fine = fine & one;
-        i += 1;
+    for i in 0..n {
+        fine &= same_at(place, what, i, take(numbers, at), number(&got, i));
     }
     fine
 }
@@ -123,40 +119,21 @@ pub fn same_output(numbers: &[u64], at: &mut usize, place: Place, fill: u8, out:
 
 // Bytes after a call: those written, and after them what each held before. A line names the first that differs.
 pub fn same_bytes(place: Place, what: &[u8], written: &[u8], fill: u8, out: &[u8]) -> bool {
-    let mut i = 0;
-    while i < out.len() {
-        if !same_at(
-            place,
-            what,
-            i,
-            expected_byte(written, fill, i),
-            wide(out[i]),
-        ) {
+    for (i, byte) in out.iter().enumerate() {
+        let expected = written.get(i).copied().unwrap_or(fill);
+        if !same_at(place, what, i, u64::from(expected), u64::from(*byte)) {
             return false;
         }
-        i += 1;
     }
     true
-}
-
-fn expected_byte(written: &[u8], fill: u8, i: usize) -> u64 {
-    if i < written.len() {
-        return wide(written[i]);
-    }
-    wide(fill)
-}
-
-fn wide(x: u8) -> u64 {
-    x as u64
 }
 
 // A board before a call: `fill + i` in cell i. The `ensures` gives the length, which lending the array as a slice needs.
 pub fn fresh_board(fill: u64) -> [u64; BOARD]
     ensures { 1024 ≡ length result }
 {
-    let none = [0u64; 0];
     let mut board = [0; BOARD];
-    lay(&none, fill, &mut board);
+    lay(&[], fill, &mut board);
     board
 }
 
@@ -172,10 +149,8 @@ pub fn join(numbers: &[u64], a: usize, n: usize, b: usize, m: usize) -> [u64; JO
 
 // Some cells at the start of a board, and `fill + i` in each cell i behind them.
 fn lay(cells: &[u64], fill: u64, board: &mut [u64]) {
-    let mut i = 0;
-    while i < board.len() {
-        board[i] = expected_cell(cells, fill, i);
-        i += 1;
+    for (i, cell) in board.iter_mut().enumerate() {
+        *cell = expected_cell(cells, fill, i);
     }
 }
 
@@ -183,25 +158,23 @@ fn lay(cells: &[u64], fill: u64, board: &mut [u64]) {
 // that differs.
 pub fn same_board(numbers: &[u64], at: &mut usize, place: Place, fill: u64, board: &[u64]) -> bool {
     let written = counted(numbers, at);
-    let mut i = 0;
-    while i < board.len() {
+    for (i, cell) in board.iter().enumerate() {
         if !same_at(
             place,
             b"board cell",
             i,
             expected_cell(written, fill, i),
-            board[i],
+            *cell,
         ) {
             return false;
         }
-        i += 1;
     }
     true
 }
 
 fn expected_cell(written: &[u64], fill: u64, i: usize) -> u64 {
-    if i < written.len() {
-        return written[i];
-    }
-    wrapping_add_u64(fill, i as u64)
+    written
+        .get(i)
+        .copied()
+        .unwrap_or(fill.wrapping_add(i as u64))
 }

@@ -2,23 +2,21 @@
 // feed. Reading past the end gives nothing, so a short input shows as differences.
 ghost use Rattle.std.specs.Prelude.{◌≡◌, length};
 
-use crate::numbers::{is_digit, with_digit};
-use std::num::wrapping_add_usize;
+use crate::numbers::with_digit;
 
 // Room for the cases.
 const TEXT: usize = 524288;
 
-// Where the bytes of a case stand, and where the line feed behind them does; two zeros end the cases.
-#[derive(Clone, Copy)]
+// Where the bytes of a case stand, and where the line feed behind them does.
+#[derive(Clone, Copy, Debug, PartialEq, Eq)]
 pub struct Case {
     pub input: usize,
     pub output: usize,
     pub next: usize,
-    pub ended: bool,
 }
 
 // A number, and where the byte behind it stands.
-#[derive(Drop)]
+#[derive(Clone, Copy, Debug, PartialEq, Eq)]
 struct Number {
     value: usize,
     end: usize,
@@ -31,63 +29,57 @@ pub fn room_for_text() -> [u8; TEXT]
     [0; TEXT]
 }
 
-pub fn first_case(text: &[u8]) -> Case {
+pub fn first_case(text: &[u8]) -> Option<Case> {
     case_at(text, behind_comment(text))
 }
 
-// The case behind another, or that other where the cases have ended.
-pub fn next_case(text: &[u8], case: Case) -> Case {
-    if case.ended {
-        return case;
-    }
-    case_at(text, wrapping_add_usize(case.next, 1))
+// The case behind another, if there is one.
+pub fn next_case(text: &[u8], case: Case) -> Option<Case> {
+    case_at(text, case.next.wrapping_add(1))
 }
 
-fn case_at(text: &[u8], at: usize) -> Case {
+// Two zeros end the cases.
+fn case_at(text: &[u8], at: usize) -> Option<Case> {
     let sheet = number_at(text, at);
-    let printed = number_at(text, wrapping_add_usize(sheet.end, 1));
-    let input = wrapping_add_usize(printed.end, 1);
-    let output = wrapping_add_usize(input, sheet.value);
-    Case {
+    let printed = number_at(text, sheet.end.wrapping_add(1));
+    if sheet.value == 0 && printed.value == 0 {
+        return None;
+    }
+    let input = printed.end.wrapping_add(1);
+    let output = input.wrapping_add(sheet.value);
+    Some(Case {
         input,
         output,
-        next: wrapping_add_usize(output, printed.value),
-        ended: sheet.value == 0 && printed.value == 0,
-    }
+        next: output.wrapping_add(printed.value),
+    })
 }
 
 // The decimal that begins at an index.
 fn number_at(text: &[u8], at: usize) -> Number {
     let mut value = 0;
-    let mut i = at;
-    while i < text.len() {
-        let byte = text[i];
-        if !is_digit(byte) {
+    for (i, byte) in text.iter().enumerate().skip(at) {
+        if !byte.is_ascii_digit() {
             return Number {
                 value: value as usize,
                 end: i,
             };
         }
-        value = with_digit(value, byte);
-        i += 1;
+        value = with_digit(value, *byte);
     }
     Number {
         value: value as usize,
-        end: i,
+        end: text.len(),
     }
 }
 
 // The start of the first line that does not begin with #.
 fn behind_comment(text: &[u8]) -> usize {
     let mut fresh = true;
-    let mut i = 0;
-    while i < text.len() {
-        let byte = text[i];
-        if fresh & (byte != b'#') {
+    for (i, byte) in text.iter().enumerate() {
+        if fresh && *byte != b'#' {
             return i;
         }
-        fresh = byte == b'\n';
-        i += 1;
+        fresh = *byte == b'\n';
     }
-    i
+    text.len()
 }

@@ -1,8 +1,6 @@
 // How many cases were played, and how many of them differ.
-use std::num::wrapping_add_u64;
-
 // A case that was played: whether it ended as expected, how many cuts it has, and whether 16 refused some of them and 19 others.
-#[derive(Drop)]
+#[derive(Clone, Copy, Debug, PartialEq, Eq)]
 pub struct Played {
     pub same: bool,
     pub cuts: u64,
@@ -21,7 +19,7 @@ impl Played {
 }
 
 // How many cases, how many that differ, how many cuts in them, and how many that repeat an argument.
-#[derive(Clone, Copy)]
+#[derive(Clone, Copy, Debug, PartialEq, Eq)]
 pub struct Tally {
     pub played: u64,
     pub differ: u64,
@@ -41,10 +39,10 @@ impl Tally {
 
     pub fn add(self, case: Played) -> Self {
         Tally {
-            played: wrapping_add_u64(self.played, 1),
-            differ: wrapping_add_u64(self.differ, !case.same as u64),
-            cuts: wrapping_add_u64(self.cuts, case.cuts),
-            repeats: wrapping_add_u64(self.repeats, case.repeat as u64),
+            played: self.played.wrapping_add(1),
+            differ: self.differ.wrapping_add(u64::from(!case.same)),
+            cuts: self.cuts.wrapping_add(case.cuts),
+            repeats: self.repeats.wrapping_add(u64::from(case.repeat)),
         }
     }
 }

@@ -5,9 +5,9 @@
 
 use replay::compare::{Place, same, same_bytes};
 use replay::numbers::piece;
-use replay::sheets::{Case, first_case, next_case, room_for_text};
+use replay::sheets::{first_case, next_case, room_for_text};
 use replay::tally::{Played, Tally, summary};
-use sheets::{Bound, bind};
+use sheets::{NoRoom, bind};
 
 // Room for an output with bytes to spare, and what each of them holds before.
 const OUT: usize = 40970;
@@ -23,34 +23,26 @@ fn main() {
 // The cases, one after the other. No input has more cases than bytes: a loop must be seen to end.
 fn replay_all(text: &[u8]) {
     let mut tally = Tally::new();
-    let mut case = first_case(text);
-    let mut turns = text.len();
-    while 0 < turns {
-        tally = play_next(text, case, tally);
-        case = next_case(text, case);
-        turns -= 1;
+    let mut next = first_case(text);
+    for _ in 0..text.len() {
+        let Some(case) = next else {
+            break;
+        };
+        let input = piece(text, case.input, case.output);
+        let expected = piece(text, case.output, case.next);
+        let same = play(Place::new(1, tally.played), input, expected);
+        tally = tally.add(Played::single(same));
+        next = next_case(text, case);
     }
     summary(b"sheets: ", tally);
-}
-
-// The case, unless the cases have ended.
-fn play_next(text: &[u8], case: Case, tally: Tally) -> Tally {
-    if case.ended {
-        return tally;
-    }
-    let input = piece(text, case.input, case.output);
-    let expected = piece(text, case.output, case.next);
-    let same = play(Place::new(1, tally.played), input, expected);
-    tally.add(Played::single(same))
 }
 
 // One sheet on a fresh output: does it print what is expected, and is the rest kept?
 fn play(place: Place, input: &[u8], expected: &[u8]) -> bool {
     let mut out = [FILL; OUT];
-    let bound = bind(input, &mut out);
-    match bound {
-        Bound::NoRoom => same(place, b"room", 1, 0),
-        Bound::Written(len) => {
+    match bind(input, &mut out) {
+        Err(NoRoom) => same(place, b"room", 1, 0),
+        Ok(len) => {
             let length = same(place, b"length", expected.len() as u64, len as u64);
             length && same_bytes(place, b"byte", expected, FILL, &out)
         }

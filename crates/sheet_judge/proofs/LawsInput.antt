@@ -1,39 +1,40 @@
 -- Headers, sheets and the whole input (01, sheets; 30 and its line): what each answer to reading a sheet says of the verdict, from the sheet's
 -- header on; then the verdict and the places of an input of which both sheets were read.
 -- Assumes nothing.
-use mathlib.Core.Path.{◌≡◌, sym, ap, ◌∙◌, subst}
-use mathlib.Core.Bool.{true, false}
+use mathlib.Core.Path.{◌≡◌, refl, sym, ap, ◌∙◌, subst}
+use mathlib.Core.Bool.{false}
 use mathlib.Core.List.{List, [], ◌∷◌, ◌++◌, map}
 use Prim.Native.Nat.{ℕ, suc, ◌+◌, ◌≤◌, ◌<◌}
 use native.Mathlib.Numerals.{add-one}
 use native.Mathlib.Omega.{arith}
 use lib.ListN.{length, take, drop, length-append}
 use lib.Seq.{take_at}
+use Rattle.std.specs.Prelude.{Option, Some, None, Ok, Err}
+use Rattle.std.specs.Option.{ok_or}
 use Rattle.rules.specs.SheetLines as rules
 use Rattle.rules.specs.SheetRows.{parameter_row_right, call_row_right}
 use Rattle.rules.specs.SheetInput.{right, bad, judge_rows, rows_of, call_lines, input_most, judge_input}
 use Rattle.sheet_lines.specs.Piece.{piece, PieceEnd}
-use Rattle.sheet_lines.specs.Header.{columns_of, HeaderRead}
-use Rattle.sheet_lines.specs.declared.header.Header.{Header}
+use Rattle.sheet_lines.specs.Header.{columns_of, ColumnsRead}
+use Rattle.sheet_lines.specs.declared.header.Columns.{Columns}
+use Rattle.sheet_lines.proofs.LawsPiece.{piece_front}
 use Rattle.sheet_lines.proofs.LawsLines.{lines_next, lines_end, unended_next}
 use Rattle.sheet_judge.specs.Sheets.{judge_parameters, judge_call}
-use Rattle.sheet_judge.specs.Read.{StepsRead, ParametersAre, ParametersRead, ValuesRead, CallIs, CallRead}
+use Rattle.sheet_judge.specs.Read.{StepsAre, StepsRead, ParametersAre, ParametersRead, ValuesAre, ValuesRead, CallIs, CallRead}
 use Rattle.sheet_judge.specs.Judged.{places_of, PlacesAre, Judging}
 use Rattle.sheet_judge.specs.declared.counts.Counts.{Counts}
 use Rattle.sheet_judge.specs.declared.parameters.ParameterPlaces.{ParameterPlaces}
-use Rattle.sheet_judge.specs.declared.parameters.Parameters.{Parameters}
-use Rattle.sheet_judge.specs.declared.parameters.Parameters.TheVariants as parameters
 use Rattle.sheet_judge.specs.declared.parameters.Steps.{Steps}
-use Rattle.sheet_judge.specs.declared.parameters.Steps.TheVariants as steps
 use Rattle.sheet_judge.specs.declared.call.CallPlaces.{CallPlaces}
-use Rattle.sheet_judge.specs.declared.call.Call.{Call}
-use Rattle.sheet_judge.specs.declared.call.Call.TheVariants as call
-use Rattle.sheet_judge.specs.declared.call.Values.{Values}
-use Rattle.sheet_judge.specs.declared.call.Values.TheVariants as values
-use Rattle.sheet_judge.specs.declared.Judged.TheVariants.{Right, Bad}
+use Rattle.sheet_judge.specs.declared.BadLine.{BadLine}
 use Rattle.sheet_judge.proofs.LawsValues.{judged_few}
 use Rattle.sheet_judge.proofs.LawsRows.{rows_three}
 use Rattle.sheet_judge.proofs.LawsSheets.{parameters_none, parameters_header, parameters_steps, call_none, call_header, call_values, values_right, input_long, input_parameters, lines_parameters, lines_call, input_call}
+
+-- what was missing is refused by its line
+pub refused : {T : Type 0} (found : Option T) (line : BadLine) {wrong : BadLine} → Err wrong ≡ ok_or found line → (found ≡ None) × (wrong ≡ line)
+refused None line e = (refl, cc)
+refused (Some x) line e = cc
 
 -- ---- the parameter sheet
 
@@ -41,31 +42,35 @@ module _ {input : List ℕ} {end : ℕ} (found : PieceEnd 10 input 0 (length inp
   pub parameters_missing : end ≡ length input → judge_parameters 64 (rules.lines_in input) ≡ bad 30 1
   parameters_missing h = ap (judge_parameters 64) (lines_end found h) ∙ parameters_none 64
 
-  module _ (h : end < length input) {r : Header} (read : HeaderRead input 0 end r) where
-    pub parameters_wrong : r.right ≡ false → judge_parameters 64 (rules.lines_in input) ≡ bad 30 1
+  module _ (h : end < length input) where
+    -- the first line, and those behind it
+    first_line : rules.lines_in input ≡ take end input ∷ rules.lines_in (drop (suc end) input)
+    first_line = rw piece_front at (lines_next found h)
+
+    pub parameters_wrong : rules.header_right (take end input) ≡ false → judge_parameters 64 (rules.lines_in input) ≡ bad 30 1
     parameters_wrong e =
-        ap (judge_parameters 64) (lines_next found h)
-        ∙ parameters_header 64 (piece input 0 end) (rules.lines_in (drop (suc end) input)) (sym read.told ∙ e)
+        ap (judge_parameters 64) first_line ∙ parameters_header 64 (take end input) (rules.lines_in (drop (suc end) input)) e
 
-    module _ (e : r.right ≡ true) {s : Steps} (behind : StepsRead (columns_of r.columns) input (end + 1) s) where
-      pub parameters_bad : {line : ℕ} → s ≡ steps.Bad line → judge_parameters 64 (rules.lines_in input) ≡ bad 30 line
-      parameters_bad {line} q =
-          ap (judge_parameters 64) (lines_next found h)
-          ∙ parameters_steps 64 (piece input 0 end) (rules.lines_in (drop (suc end) input)) (sym read.told ∙ e)
-          ∙ rw (← read.columns e, ← add-one end) (subst (StepsRead (columns_of r.columns) input (end + 1)) q behind)
+    module _ {columns : Columns} (read : ColumnsRead (take end input) columns) where
+      pub parameters_bad : (line : BadLine) → StepsRead (columns_of columns) input (end + 1) (Err line)
+          → judge_parameters 64 (rules.lines_in input) ≡ bad 30 line.0
+      parameters_bad line behind =
+          ap (judge_parameters 64) first_line
+          ∙ parameters_steps 64 (take end input) (rules.lines_in (drop (suc end) input)) read.told
+          ∙ rw (← read.columns, ← add-one end) behind
 
-      pub parameters_right : {rows next : ℕ} → s ≡ steps.Right rows next
-          → ParametersAre input (record { columns = r.columns; from = end + 1; rows = rows; next = next })
-      parameters_right {rows} {next} q =
+      pub parameters_right : (steps : Steps) → StepsAre (columns_of columns) input (end + 1) steps.rows steps.next
+          → ParametersAre input (record { columns = columns; from = end + 1; rows = steps.rows; next = steps.next })
+      parameters_right steps behind =
           record {
-            header = piece input 0 end;
-            parted = rw (add-one end) (lines_next found h);
+            header = take end input;
+            parted = rw (add-one end) first_line;
             rest = rw (add-one end) (unended_next found h);
-            header_right = sym read.told ∙ e;
-            columns = read.columns e;
-            below = read.below e;
+            header_right = read.told;
+            columns = read.columns;
+            below = read.below;
             within = omega arith;
-            steps = subst (StepsRead (columns_of r.columns) input (end + 1)) q behind;
+            steps = behind;
           }
 
 -- ---- the call sheet
@@ -74,49 +79,45 @@ module _ {input : List ℕ} {at end : ℕ} (line : ℕ) (found : PieceEnd 10 inp
   pub call_missing : end ≡ length input → judge_call 64 line (rules.lines_in (drop at input)) (rules.unended (drop at input)) ≡ bad 30 line
   call_missing h = rw (lines_end found h) (call_none 64 line (rules.unended (drop at input)))
 
-  module _ (h : end < length input) {r : Header} (read : HeaderRead input at end r) where
-    pub call_wrong : r.right ≡ false → judge_call 64 line (rules.lines_in (drop at input)) (rules.unended (drop at input)) ≡ bad 30 line
+  module _ (h : end < length input) where
+    pub call_wrong : rules.header_right (piece input at end) ≡ false → judge_call 64 line (rules.lines_in (drop at input)) (rules.unended (drop at input)) ≡ bad 30 line
     call_wrong e =
         rw (lines_next found h)
-        (call_header 64 line (piece input at end) (rules.lines_in (drop (suc end) input)) (rules.unended (drop at input)) (sym read.told ∙ e))
+        (call_header 64 line (piece input at end) (rules.lines_in (drop (suc end) input)) (rules.unended (drop at input)) e)
 
-    module _ (e : r.right ≡ true) {s : Values} (behind : ValuesRead (columns_of r.columns) input (end + 1) (line + 1) s) where
-      pub call_bad : {wrong : ℕ} → s ≡ values.Bad wrong → judge_call 64 line (rules.lines_in (drop at input)) (rules.unended (drop at input)) ≡ bad 30 wrong
-      call_bad {wrong} q =
+    module _ {columns : Columns} (read : ColumnsRead (piece input at end) columns) where
+      pub call_bad : (wrong : BadLine) → ValuesRead (columns_of columns) input (end + 1) (line + 1) (Err wrong)
+          → judge_call 64 line (rules.lines_in (drop at input)) (rules.unended (drop at input)) ≡ bad 30 wrong.0
+      call_bad wrong behind =
           rw (lines_next found h, unended_next found h)
-          (call_values 64 line (piece input at end) (rules.lines_in (drop (suc end) input)) (rules.unended (drop (suc end) input)) (sym read.told ∙ e)
-          ∙ rw (← read.columns e, ← add-one end) (subst (ValuesRead (columns_of r.columns) input (end + 1) (line + 1)) q behind))
+          (call_values 64 line (piece input at end) (rules.lines_in (drop (suc end) input)) (rules.unended (drop (suc end) input)) read.told
+          ∙ rw (← read.columns, ← add-one end) behind)
 
-      pub call_right : {k : Counts} → s ≡ values.Right k → CallIs input at line (record { columns = r.columns; from = end + 1; counts = k })
-      call_right {k} q =
+      pub call_right : (k : Counts) → ValuesAre (columns_of columns) input (end + 1) (line + 1) k
+          → CallIs input at line (record { columns = columns; from = end + 1; counts = k })
+      call_right k behind =
           record {
             header = piece input at end;
             parted = rw (add-one end) (lines_next found h);
             rest = rw (add-one end) (unended_next found h);
-            header_right = sym read.told ∙ e;
-            columns = read.columns e;
-            below = read.below e;
+            header_right = read.told;
+            columns = read.columns;
+            below = read.below;
             within = omega arith;
-            values = subst (ValuesRead (columns_of r.columns) input (end + 1) (line + 1)) q behind;
+            values = behind;
           }
 
 -- ---- the input
 
-judging_bad : (input : List ℕ) (line : ℕ) → judge_input 64 64 input ≡ bad 30 line → Judging input (Bad line)
-judging_bad input line e =
-    record { verdict = sym e; places = λ p q. let z : ◌≡◌ {A = ℕ} 0 1 = cc in absurd (omega arith) }
+judging_bad : (input : List ℕ) (line : BadLine) → judge_input 64 64 input ≡ bad 30 line.0 → Judging input (Err line)
+judging_bad input line e = record { verdict = sym e; places = λ p q. cc }
 
-pub judging_long : (input : List ℕ) → 16384 < length input → Judging input (Bad 0)
+pub judging_long : (input : List ℕ) → 16384 < length input → Judging input (Err (record { 0 = 0 }))
 unfolding input_most
-judging_long input h = judging_bad input 0 (input_long 64 64 input h)
+judging_long input h = judging_bad input (record { 0 = 0 }) (input_long 64 64 input h)
 
-module _ {input : List ℕ} (short : length input ≤ input_most) {r : Parameters} (first : ParametersRead input r) where
-  pub judging_parameters : {line : ℕ} → r ≡ parameters.Bad line → Judging input (Bad line)
-  judging_parameters {line} e =
-      judging_bad input line (input_parameters 64 64 input short 30 line (subst (ParametersRead input) e first))
-
-pub parameters_are : {input : List ℕ} {r : Parameters} {p : ParameterPlaces} → ParametersRead input r → r ≡ parameters.Right p → ParametersAre input p
-parameters_are {input} first e = subst (ParametersRead input) e first
+pub judging_parameters : {input : List ℕ} → length input ≤ input_most → (line : BadLine) → ParametersRead input (Err line) → Judging input (Err line)
+judging_parameters {input} short line first = judging_bad input line (input_parameters 64 64 input short 30 line.0 first)
 
 module _ {input : List ℕ} (short : length input ≤ input_most) {p : ParameterPlaces} (a : ParametersAre input p) where
   parted : rules.lines_in input ≡ a.header ∷ (a.steps.lines ++ [] ∷ rules.lines_in (drop p.next input))
@@ -131,9 +132,8 @@ module _ {input : List ℕ} (short : length input ≤ input_most) {p : Parameter
       (rw a.steps.many a.steps.some)
       ∙ rw (a.steps.many, a.rest, a.steps.rest)
 
-  module _ {r : Call} (behind : CallRead input p.next (p.rows + 3) r) where
-    pub judging_call : {line : ℕ} → r ≡ call.Bad line → Judging input (Bad line)
-    judging_call {line} e = judging_bad input line (second ∙ subst (CallRead input p.next (p.rows + 3)) e behind)
+  pub judging_call : (line : BadLine) → CallRead input p.next (p.rows + 3) (Err line) → Judging input (Err line)
+  judging_call line behind = judging_bad input line (second ∙ behind)
 
   module _ {k : CallPlaces} (b : CallIs input p.next (p.rows + 3) k) where
     all_right : judge_input 64 64 input ≡ right
@@ -181,10 +181,9 @@ module _ {input : List ℕ} (short : length input ≤ input_most) {p : Parameter
               judged_few (columns_of k.columns) (p.rows + 3 + 1) (rules.lines_in (drop k.from input)) b.values.judged b.values.counts;
         }
 
-  pub judging_right : {r : Call} (behind : CallRead input p.next (p.rows + 3) r) {k : CallPlaces} → r ≡ call.Right k → Judging input (Right (places_of p k))
-  judging_right behind {k} e =
-      let b = subst (CallRead input p.next (p.rows + 3)) e behind in
-      record {
-        verdict = sym (all_right b);
-        places = λ q h. let same : places_of p k ≡ q = cc in subst (PlacesAre input) same (places b);
-      }
+    pub judging_right : Judging input (Ok (places_of p k))
+    judging_right =
+        record {
+          verdict = sym all_right;
+          places = λ q h. let same : places_of p k ≡ q = cc in subst (PlacesAre input) same places;
+        }

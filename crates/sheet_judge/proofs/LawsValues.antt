@@ -6,18 +6,18 @@ use mathlib.Core.List.{List, [], ◌∷◌, map}
 use Prim.Native.Nat.{ℕ, suc, ◌+◌, ◌≤◌, ◌<◌}
 use native.Mathlib.Omega.{arith}
 use lib.ListN.{length, drop, length-drop}
-use Rattle.rules.specs.SheetLines.{lines_in, unended, cells_in, three_cells, Columns, row_in}
-use Rattle.rules.specs.SheetRows.{is_empty, CallPart, call_part, call_row_right}
+use Rattle.rules.specs.SheetLines.{lines_in, unended, cells_in, three_cells, Columns, Row, row_in}
+use Rattle.rules.specs.SheetRows.{is_empty, CallPart, unknown_part, call_part, call_row_right}
 use Rattle.rules.specs.SheetInput.{right, bad, judge_rows}
 use Rattle.rules.proofs.LawsListing.{and_right, map_append}
 use Rattle.rules.proofs.LawsSheetRows.{CallRows, call_rows}
 use Rattle.sheet_lines.specs.Piece.{piece, PieceEnd}
 use Rattle.sheet_lines.proofs.LawsLines.{unended_end}
-use Rattle.sheet_judge.specs.Counts.{counts_of, fits, fits_as, more, more_as, Few, row_with}
+use Rattle.sheet_judge.specs.Counts.{counts_of, fits, fits_as, more, more_as, Few}
 use Rattle.sheet_judge.specs.Sheets.{judge_values}
 use Rattle.sheet_judge.specs.Read.{line_counts, counted_in, ValuesAre}
 use Rattle.sheet_judge.specs.declared.counts.Counts.{Counts}
-use Rattle.sheet_judge.specs.declared.call.Counted.TheVariants.{Right, Bad}
+use Rattle.std.specs.Prelude.{Some, None}
 use Rattle.sheet_judge.proofs.LawsCell.{empty_no}
 use Rattle.sheet_judge.proofs.LawsCounts.{counts_few, counts_fit, counts_more}
 use Rattle.sheet_judge.proofs.LawsRows.{line_right}
@@ -27,36 +27,41 @@ use Rattle.sheet_judge.proofs.LawsPassed.{Passed, passed_none, passed_left, pass
 -- ---- one line
 
 module _ (c : Columns) (k : Counts) (line : List ℕ) where
-  pub counted_short : three_cells (cells_in line) ≡ false → Bad ≡ counted_in c k line
+  pub counted_short : three_cells (cells_in line) ≡ false → None ≡ counted_in c k line
   unfolding counted_in
   counted_short e = rw e
 
-  -- its row's cells, its part as the code has it, and the code's answers
-  module _ {part name value : List ℕ} (e : three_cells (cells_in line) ≡ true) (r : row_with part name value ≡ row_in c line) {q : CallPart}
-      (is : q ≡ call_part part) {b : Bool} (judged : b ≡ fits_as 64 k q name value) where
-    pub counted_bad : b ≡ false → Bad ≡ counted_in c k line
+  -- its row, and the code's answers
+  module _ {row : Row} (e : three_cells (cells_in line) ≡ true) (r : row ≡ row_in c line) where
+    pub counted_unknown : unknown_part ≡ call_part row.part → None ≡ counted_in c k line
     unfolding counted_in fits
-    counted_bad h = let f : fits_as 64 k (call_part part) name value ≡ false = rw (← is) (sym judged ∙ h) in rw (e, ← r, f)
+    counted_unknown is = let f : fits_as 64 k (call_part row.part) row.name row.value ≡ false = rw (← is) in rw (e, ← r, f)
 
-    pub counted_right : b ≡ true → (m : Counts) → m ≡ more_as k q value → Right m ≡ counted_in c k line
-    unfolding counted_in fits more
-    counted_right h m g = let f : fits_as 64 k (call_part part) name value ≡ true = rw (← is) (sym judged ∙ h) in rw (e, ← r, f, g, is)
+    -- its part as the code has it
+    module _ {q : CallPart} (is : q ≡ call_part row.part) {b : Bool} (judged : b ≡ fits_as 64 k q row.name row.value) where
+      pub counted_bad : b ≡ false → None ≡ counted_in c k line
+      unfolding counted_in fits
+      counted_bad h = let f : fits_as 64 k (call_part row.part) row.name row.value ≡ false = rw (← is) (sym judged ∙ h) in rw (e, ← r, f)
 
-  pub bad_counted : counted_in c k line ≡ Bad → line_counts c k line ≡ false
+      pub counted_right : b ≡ true → (m : Counts) → m ≡ more_as k q row.value → Some m ≡ counted_in c k line
+      unfolding counted_in fits more
+      counted_right h m g = let f : fits_as 64 k (call_part row.part) row.name row.value ≡ true = rw (← is) (sym judged ∙ h) in rw (e, ← r, f, g, is)
+
+  pub bad_counted : counted_in c k line ≡ None → line_counts c k line ≡ false
   unfolding counted_in
   bad_counted e = go (line_counts c k line) e
     where
-      go : (b : Bool) → cond b (Right (more k (row_in c line))) Bad ≡ Bad → b ≡ false
-      go true p = let z : ◌≡◌ {A = ℕ} 0 1 = cc in absurd (omega arith)
+      go : (b : Bool) → cond b (Some (more k (row_in c line))) None ≡ None → b ≡ false
+      go true p = cc
       go false p = refl
 
-  pub right_counted : (m : Counts) → counted_in c k line ≡ Right m → (line_counts c k line ≡ true) × (more k (row_in c line) ≡ m)
+  pub right_counted : (m : Counts) → counted_in c k line ≡ Some m → (line_counts c k line ≡ true) × (more k (row_in c line) ≡ m)
   unfolding counted_in
   right_counted m e = go (line_counts c k line) e
     where
-      go : (b : Bool) → cond b (Right (more k (row_in c line))) Bad ≡ Right m → (b ≡ true) × (more k (row_in c line) ≡ m)
+      go : (b : Bool) → cond b (Some (more k (row_in c line))) None ≡ Some m → (b ≡ true) × (more k (row_in c line) ≡ m)
       go true p = (refl, cc)
-      go false p = let z : ◌≡◌ {A = ℕ} 0 1 = cc in absurd (omega arith)
+      go false p = cc
 
 -- ---- the lines passed
 
@@ -90,14 +95,14 @@ module _ {c : Columns} {input : List ℕ} {first from next at : ℕ} {k : Counts
         rw (passed_all s.passed found h, u, ← s.passed.many)
         (values_unended 64 c first s.passed.lines s.passed.judged (drop at input) f)
 
-    pub values_wrong : end < length input → counted_in c k (piece input at end) ≡ Bad
+    pub values_wrong : end < length input → counted_in c k (piece input at end) ≡ None
         → judge_values 64 c first (lines_in (drop from input)) (unended (drop from input)) ≡ bad 30 next
     values_wrong h e =
         rw (passed_left s.passed found h, ← s.passed.many)
         (values_bad 64 c first s.passed.lines s.passed.judged (piece input at end) (lines_in (drop (suc end) input)) (unended (drop from input))
         (line_counts_lem (piece input at end) ∙ bad_counted c k (piece input at end) e))
 
-    pub values_next : end < length input → (m : Counts) → counted_in c k (piece input at end) ≡ Right m
+    pub values_next : end < length input → (m : Counts) → counted_in c k (piece input at end) ≡ Some m
         → CountedTo c input first from (next + 1) (end + 1) m
     unfolding passed_next
     values_next h m e =

@@ -7,10 +7,6 @@ use Rattle.rules.specs.SheetRows.{is_empty, is_value, is_def, step_right, CallPa
 use Rattle.rules.specs.SheetRecords.{kind_by}
 use Rattle.sheet_judge.specs.declared.counts.Counts.{Counts}
 
--- the row of three cells
-abbrev pub row_with : List ℕ → List ℕ → List ℕ → Row
-row_with part name value = record { part = part; name = name; value = value }
-
 -- ---- the parameter sheet
 
 -- a row of a parameter sheet with so many rows before it; A is the number of parameters that a list may have

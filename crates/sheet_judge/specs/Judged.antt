@@ -1,5 +1,5 @@
 -- The verdict over an input and where its sheets stand (01, sheets; 30 and its line), as the code answers.
-use Rattle.std.specs.Prelude.{◌≡◌, Bool, true, List, map, ℕ, ◌≤◌, length, take, drop}
+use Rattle.std.specs.Prelude.{Result, Ok, Err, ◌≡◌, Bool, true, List, map, ℕ, ◌≤◌, length, take, drop}
 use Rattle.rules.specs.Listing.{all}
 use Rattle.rules.specs.SheetLines as rules
 use Rattle.rules.specs.SheetInput.{Verdict, right, bad, rows_of, parameter_lines, call_lines, judge_input}
@@ -9,12 +9,11 @@ use Rattle.sheet_judge.specs.Counts.{counts_of, Few}
 use Rattle.sheet_judge.specs.declared.parameters.ParameterPlaces.{ParameterPlaces}
 use Rattle.sheet_judge.specs.declared.call.CallPlaces.{CallPlaces}
 use Rattle.sheet_judge.specs.declared.Places.{Places}
-use Rattle.sheet_judge.specs.declared.Judged.{Judged}
-use Rattle.sheet_judge.specs.declared.Judged.TheVariants.{Right, Bad}
+use Rattle.sheet_judge.specs.declared.BadLine.{BadLine}
 
-abbrev pub verdict_of : Judged → Verdict
-verdict_of (Right p) = right
-verdict_of (Bad line) = bad 30 line
+abbrev pub verdict_of : Result Places BadLine → Verdict
+verdict_of (Ok p) = right
+verdict_of (Err line) = bad 30 line.0
 
 -- the places of both sheets
 abbrev pub places_of : ParameterPlaces → CallPlaces → Places
@@ -65,6 +64,6 @@ pub record PlacesAre (input : List ℕ) (p : Places) : Type 0 where
   pub counts_few : Few 64 p.counts
 
 -- the verdict over an input, and where its sheets stand if it is well formed
-pub record Judging (input : List ℕ) (r : Judged) : Type 0 where
+pub record Judging (input : List ℕ) (r : Result Places BadLine) : Type 0 where
   pub verdict : verdict_of r ≡ judge_input 64 64 input
-  pub places : (p : Places) → r ≡ Right p → PlacesAre input p
+  pub places : (p : Places) → r ≡ Ok p → PlacesAre input p

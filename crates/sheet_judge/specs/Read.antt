@@ -1,5 +1,5 @@
 -- What reading a sheet answers (01, sheets; 30 and its line): the line that breaks a rule, or where the sheet's rows stand.
-use Rattle.std.specs.Prelude.{◌≡◌, Bool, true, cond, ◌&&◌, List, [], ◌∷◌, ◌++◌, map, ℕ, ◌+◌, ◌≤◌, length, drop}
+use Rattle.std.specs.Prelude.{Option, Some, None, Result, Ok, Err, ◌≡◌, Bool, true, cond, ◌&&◌, List, [], ◌∷◌, ◌++◌, map, ℕ, ◌+◌, ◌≤◌, length, drop}
 use Rattle.rules.specs.SheetLines as rules
 use Rattle.rules.specs.SheetRows.{is_empty, parameter_row_right, call_row_right}
 use Rattle.rules.specs.SheetInput.{right, bad, judge_rows}
@@ -8,17 +8,9 @@ use Rattle.sheet_judge.specs.Counts.{parameter_fits, counts_of, fits, more}
 use Rattle.sheet_judge.specs.Sheets.{judge_parameters, judge_steps, judge_call, judge_values}
 use Rattle.sheet_judge.specs.declared.counts.Counts.{Counts}
 use Rattle.sheet_judge.specs.declared.parameters.ParameterPlaces.{ParameterPlaces}
-use Rattle.sheet_judge.specs.declared.parameters.Parameters.{Parameters}
-use Rattle.sheet_judge.specs.declared.parameters.Parameters.TheVariants as parameters
 use Rattle.sheet_judge.specs.declared.parameters.Steps.{Steps}
-use Rattle.sheet_judge.specs.declared.parameters.Steps.TheVariants as steps
+use Rattle.sheet_judge.specs.declared.BadLine.{BadLine}
 use Rattle.sheet_judge.specs.declared.call.CallPlaces.{CallPlaces}
-use Rattle.sheet_judge.specs.declared.call.Call.{Call}
-use Rattle.sheet_judge.specs.declared.call.Call.TheVariants as call
-use Rattle.sheet_judge.specs.declared.call.Values.{Values}
-use Rattle.sheet_judge.specs.declared.call.Values.TheVariants as values
-use Rattle.sheet_judge.specs.declared.call.Counted.{Counted}
-use Rattle.sheet_judge.specs.declared.call.Counted.TheVariants as counted
 
 -- ---- the parameter sheet
 
@@ -37,9 +29,9 @@ pub record StepsAre (c : rules.Columns) (input : List ℕ) (from rows next : ℕ
   pub most : rows ≤ 67
   pub within : next ≤ length input
 
-abbrev pub StepsRead : rules.Columns → List ℕ → ℕ → Steps → Type 0
-StepsRead c input from (steps.Right rows next) = StepsAre c input from rows next
-StepsRead c input from (steps.Bad line) = judge_steps 64 c (rules.lines_in (drop from input)) ≡ bad 30 line
+abbrev pub StepsRead : rules.Columns → List ℕ → ℕ → Result Steps BadLine → Type 0
+StepsRead c input from (Ok s) = StepsAre c input from s.rows s.next
+StepsRead c input from (Err line) = judge_steps 64 c (rules.lines_in (drop from input)) ≡ bad 30 line.0
 
 -- a right header on the first line, and the rows behind it
 pub record ParametersAre (input : List ℕ) (p : ParameterPlaces) : Type 0 where
@@ -52,9 +44,9 @@ pub record ParametersAre (input : List ℕ) (p : ParameterPlaces) : Type 0 where
   pub within : p.from ≤ length input
   pub steps : StepsAre (columns_of p.columns) input p.from p.rows p.next
 
-abbrev pub ParametersRead : List ℕ → Parameters → Type 0
-ParametersRead input (parameters.Right p) = ParametersAre input p
-ParametersRead input (parameters.Bad line) = judge_parameters 64 (rules.lines_in input) ≡ bad 30 line
+abbrev pub ParametersRead : List ℕ → Result ParameterPlaces BadLine → Type 0
+ParametersRead input (Ok p) = ParametersAre input p
+ParametersRead input (Err line) = judge_parameters 64 (rules.lines_in input) ≡ bad 30 line.0
 
 -- ---- the call sheet
 
@@ -62,8 +54,8 @@ ParametersRead input (parameters.Bad line) = judge_parameters 64 (rules.lines_in
 abbrev pub line_counts : rules.Columns → Counts → List ℕ → Bool
 line_counts c k line = rules.three_cells (rules.cells_in line) && fits 64 k (rules.row_in c line)
 
-unfoldable pub counted_in : rules.Columns → Counts → List ℕ → Counted
-counted_in c k line = cond (line_counts c k line) (counted.Right (more k (rules.row_in c line))) counted.Bad
+unfoldable pub counted_in : rules.Columns → Counts → List ℕ → Option Counts
+counted_in c k line = cond (line_counts c k line) (Some (more k (rules.row_in c line))) None
 
 -- right rows from `from` on, the first of them line `first`, with these counts, and nothing behind them
 pub record ValuesAre (c : rules.Columns) (input : List ℕ) (from first : ℕ) (k : Counts) : Type 0 where
@@ -71,10 +63,10 @@ pub record ValuesAre (c : rules.Columns) (input : List ℕ) (from first : ℕ) (
   pub ended : is_empty (rules.unended (drop from input)) ≡ true
   pub counts : k ≡ counts_of (map (rules.row_in c) (rules.lines_in (drop from input)))
 
-abbrev pub ValuesRead : rules.Columns → List ℕ → ℕ → ℕ → Values → Type 0
-ValuesRead c input from first (values.Right k) = ValuesAre c input from first k
-ValuesRead c input from first (values.Bad line) =
-    judge_values 64 c first (rules.lines_in (drop from input)) (rules.unended (drop from input)) ≡ bad 30 line
+abbrev pub ValuesRead : rules.Columns → List ℕ → ℕ → ℕ → Result Counts BadLine → Type 0
+ValuesRead c input from first (Ok k) = ValuesAre c input from first k
+ValuesRead c input from first (Err line) =
+    judge_values 64 c first (rules.lines_in (drop from input)) (rules.unended (drop from input)) ≡ bad 30 line.0
 
 -- a right header at `at`, line `line` of the input, and the rows behind it
 pub record CallIs (input : List ℕ) (at line : ℕ) (p : CallPlaces) : Type 0 where
@@ -87,6 +79,6 @@ pub record CallIs (input : List ℕ) (at line : ℕ) (p : CallPlaces) : Type 0 w
   pub within : p.from ≤ length input
   pub values : ValuesAre (columns_of p.columns) input p.from (line + 1) p.counts
 
-abbrev pub CallRead : List ℕ → ℕ → ℕ → Call → Type 0
-CallRead input at line (call.Right p) = CallIs input at line p
-CallRead input at line (call.Bad wrong) = judge_call 64 line (rules.lines_in (drop at input)) (rules.unended (drop at input)) ≡ bad 30 wrong
+abbrev pub CallRead : List ℕ → ℕ → ℕ → Result CallPlaces BadLine → Type 0
+CallRead input at line (Ok p) = CallIs input at line p
+CallRead input at line (Err wrong) = judge_call 64 line (rules.lines_in (drop at input)) (rules.unended (drop at input)) ≡ bad 30 wrong.0

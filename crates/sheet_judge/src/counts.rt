@@ -7,7 +7,7 @@ ghost use Rattle.sheet_judge.specs.Counts.{counts_of, more_as, Few};
 use sheet_lines::word::{CallPart, is_dict, is_list};
 
 // How many there are of each part; a star's kind is 0 without a row for it, 1 for a list or a dictionary, 2 for anything else.
-#[derive(Clone, Copy)]
+#[derive(Clone, Copy, Debug, PartialEq, Eq)]
 pub struct Counts {
     pub p: usize,
     pub n: usize,
@@ -40,32 +40,14 @@ pub(crate) fn counts_after(counts: Counts, part: CallPart, value: &[u8]) -> Coun
 {
     let mut counted = counts;
     match part {
-        CallPart::Positional => {
-            counted.p += 1;
-            counted
-        }
-        CallPart::Named => {
-            counted.n += 1;
-            counted
-        }
-        CallPart::Star => {
-            counted.star_kind = kind_of(is_list(value));
-            counted
-        }
-        CallPart::Item => {
-            counted.s += 1;
-            counted
-        }
-        CallPart::Double => {
-            counted.double_kind = kind_of(is_dict(value));
-            counted
-        }
-        CallPart::Entry => {
-            counted.d += 1;
-            counted
-        }
-        CallPart::Unknown => counted,
+        CallPart::Positional => counted.p += 1,
+        CallPart::Named => counted.n += 1,
+        CallPart::Star => counted.star_kind = kind_of(is_list(value)),
+        CallPart::Item => counted.s += 1,
+        CallPart::Double => counted.double_kind = kind_of(is_dict(value)),
+        CallPart::Entry => counted.d += 1,
     }
+    counted
 }
 
 // The kind of a star's value: 1 if it is what the star takes.

@@ -4,9 +4,9 @@
 ghost use Rattle.std.specs.Prelude.{◌≡◌};
 ghost use Rattle.sheet_judge.specs.Judged.{places_of, Judging};
 
-use call::{Call, CallPlaces, read_call};
+use call::{CallPlaces, read_call};
 use counts::Counts;
-use parameters::{ParameterPlaces, Parameters, read_parameters};
+use parameters::{ParameterPlaces, read_parameters};
 use sheet_lines::header::Columns;
 
 pub mod call;
@@ -18,7 +18,7 @@ pub mod row;
 const LONGEST: usize = 16384;
 
 // Where the two sheets stand.
-#[derive(Drop)]
+#[derive(Clone, Copy, Debug, PartialEq, Eq)]
 pub struct Places {
     pub parameters: Columns,
     // Where the row of `def` begins.
@@ -31,42 +31,32 @@ pub struct Places {
     pub counts: Counts,
 }
 
-#[derive(Drop)]
-pub enum Judged {
-    Right(Places),
-    // The line that breaks a rule.
-    Bad(usize),
-}
+// The line that breaks a rule, counted from 1; 0 of an input that is too long.
+#[derive(Clone, Copy, Debug, PartialEq, Eq)]
+pub struct BadLine(pub usize);
 
 // The length is asked before any line. Behind the header and the rows of the parameter sheet come the blank line and then the call sheet's
 // header, so that this is line `rows` and 3.
-pub fn judge_input(input: &[u8]) -> Judged
+pub fn judge_input(input: &[u8]) -> Result<Places, BadLine>
     ensures { Judging input.now result }
 {
     if LONGEST < input.len() {
-        return Judged::Bad(0);
+        return Err(BadLine(0));
     }
-    match read_parameters(input) {
-        Parameters::Bad(line) => Judged::Bad(line),
-        Parameters::Right(p) => match read_call(input, p.next, p.rows + 3) {
-            Call::Bad(line) => Judged::Bad(line),
-            Call::Right(c) => Judged::Right(places_of(p, c)),
-        },
-    }
+    let p = read_parameters(input)?;
+    let c = read_call(input, p.next, p.rows + 3)?;
+    Ok(places_of(p, c))
 }
 
 fn places_of(p: ParameterPlaces, c: CallPlaces) -> Places
     ensures { result ≡ places_of p c }
 {
-    let parameters = p.columns;
-    let call = c.columns;
-    let counts = c.counts;
     Places {
-        parameters,
+        parameters: p.columns,
         parameter_rows: p.from,
         rows: p.rows,
-        call,
+        call: c.columns,
         call_rows: c.from,
-        counts,
+        counts: c.counts,
     }
 }

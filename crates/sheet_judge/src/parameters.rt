@@ -2,15 +2,15 @@
 ghost use Rattle.std.specs.Prelude.{◌≡◌, ◌≤◌, length};
 ghost use Rattle.rules.specs.SheetInput.{input_most};
 ghost use Rattle.sheet_lines.specs.Header.{columns_of};
-ghost use Rattle.sheet_lines.specs.Piece.{piece};
 ghost use Rattle.sheet_judge.specs.Read.{line_fits, StepsRead, ParametersRead};
 
+use crate::BadLine;
 use crate::row::parameter_row_right;
 use sheet_lines::header::{Columns, read_header};
 use sheet_lines::piece::end_of;
 use sheet_lines::row::row_in;
 
-#[derive(Drop)]
+#[derive(Clone, Copy, Debug, PartialEq, Eq)]
 pub struct ParameterPlaces {
     pub columns: Columns,
     // Where the first row begins.
@@ -20,96 +20,62 @@ pub struct ParameterPlaces {
     pub next: usize,
 }
 
-#[derive(Drop)]
-pub enum Parameters {
-    Right(ParameterPlaces),
-    // The line that breaks a rule.
-    Bad(usize),
-}
-
-// The same of the rows alone, `def` and its steps.
-#[derive(Drop)]
-enum Steps {
-    Right { rows: usize, next: usize },
-    Bad(usize),
+// The rows alone, `def` and its steps: how many, and where the line behind the blank one begins.
+#[derive(Clone, Copy, Debug, PartialEq, Eq)]
+struct Steps {
+    rows: usize,
+    next: usize,
 }
 
 // The line of the first row: the header stands on line 1.
 const FIRST_ROW: usize = 2;
 
-pub(crate) fn read_parameters(input: &[u8]) -> Parameters
+pub(crate) fn read_parameters(input: &[u8]) -> Result<ParameterPlaces, BadLine>
     requires { length input.now ≤ input_most }
     ensures { ParametersRead input.now result }
 {
-    let end = end_of(b'\n', input, 0, input.len());
-    if end == input.len() {
-        return Parameters::Bad(1);
-    }
-    let header = read_header(input, 0, end);
-    if !header.right {
-        return Parameters::Bad(1);
-    }
-    let columns = header.columns;
+    let end = end_of(b'\n', input, 0).ok_or(BadLine(1))?;
+    let columns = read_header(&input[..end]).ok_or(BadLine(1))?;
     let from = end + 1;
-    match read_steps(input, from, columns) {
-        Steps::Bad(line) => Parameters::Bad(line),
-        Steps::Right { rows, next } => Parameters::Right(ParameterPlaces {
-            columns,
-            from,
-            rows,
-            next,
-        }),
-    }
+    let steps = read_steps(input, from, columns)?;
+    Ok(ParameterPlaces {
+        columns,
+        from,
+        rows: steps.rows,
+        next: steps.next,
+    })
 }
 
 // The rows from `from` on, up to a blank line; the sheet has one row at least. Where the input ends first, the line that is not there
 // is the bad one.
-fn read_steps(input: &[u8], from: usize, columns: Columns) -> Steps
+fn read_steps(input: &[u8], from: usize, columns: Columns) -> Result<Steps, BadLine>
     requires { (from ≤ length input.now) × (length input.now ≤ input_most) }
     ensures { StepsRead (columns_of columns) input.now from result }
 {
     let mut at = from;
     let mut rows = 0;
-    while at < input.len() {
-        let end = end_of(b'\n', input, at, input.len());
-        if end == input.len() {
-            return Steps::Bad(rows + FIRST_ROW);
-        }
+    while let Some(end) = end_of(b'\n', input, at) {
         if end == at {
             if rows == 0 {
-                return Steps::Bad(FIRST_ROW);
+                return Err(BadLine(FIRST_ROW));
             }
-            return Steps::Right { rows, next: at + 1 };
+            return Ok(Steps { rows, next: at + 1 });
         }
-        if !line_right(input, at, end, columns, rows) {
-            return Steps::Bad(rows + FIRST_ROW);
+        if !line_right(&input[at..end], columns, rows) {
+            return Err(BadLine(rows + FIRST_ROW));
         }
         at = end + 1;
         rows += 1;
     }
-    Steps::Bad(rows + FIRST_ROW)
+    Err(BadLine(rows + FIRST_ROW))
 }
 
 // One line, behind so many rows.
-fn line_right(input: &[u8], from: usize, to: usize, columns: Columns, rows: usize) -> bool
-    requires { (from ≤ to) × (to ≤ length input.now) }
-    ensures { result ≡ line_fits (columns_of columns) rows (piece input.now from to) }
+fn line_right(line: &[u8], columns: Columns, rows: usize) -> bool
+    ensures { result ≡ line_fits (columns_of columns) rows line.now }
 {
-    let read = row_in(input, from, to, columns);
-    if !read.right {
-        return false;
+    match row_in(line, columns) {
+        Some(row) => parameter_row_right(rows, row),
+        None => false,
     }
-    let row = read.row;
-    let part_from = row.part_from;
-    let part_to = row.part_to;
-    let name_from = row.name_from;
-    let name_to = row.name_to;
-    let value_from = row.value_from;
-    let value_to = row.value_to;
-    parameter_row_right(
-        rows,
-        &input[part_from..part_to],
-        &input[name_from..name_to],
-        &input[value_from..value_to],
-    )
 }

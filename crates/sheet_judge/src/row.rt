@@ -2,12 +2,14 @@
 // sheet their counts. How long a text is, and what kind a key has, is no matter of a sheet.
 ghost use Rattle.std.specs.Prelude.{◌≡◌, ◌&&◌, ◌||◌, ltb, eqb};
 ghost use Rattle.rules.specs.SheetRows.{is_empty, is_value, step_right, is_other};
+ghost use Rattle.sheet_lines.specs.Row.{row_of};
 ghost use Rattle.sheet_lines.specs.Word.{call_part_of};
-ghost use Rattle.sheet_judge.specs.Counts.{row_with, parameter_fits, fits_as};
+ghost use Rattle.sheet_judge.specs.Counts.{parameter_fits, fits_as};
 
 use crate::counts::Counts;
+use sheet_lines::row::Row;
 use sheet_lines::word::{CallPart, code_of, is_def, is_dict, is_list, is_other};
-use sheet_values::read::{Cell, read_cell};
+use sheet_values::read::read_cell;
 
 // The values that each part of a call may have.
 const MOST: usize = 64;
@@ -16,31 +18,24 @@ const MOST: usize = 64;
 const MOST_ROWS: usize = 67;
 
 // A row of a parameter sheet with so many rows before it: `def` is the first of them and no other.
-pub(crate) fn parameter_row_right(before: usize, part: &[u8], name: &[u8], value: &[u8]) -> bool
-    ensures { result ≡ parameter_fits 64 before (row_with part.now name.now value.now) }
+pub(crate) fn parameter_row_right(before: usize, row: Row) -> bool
+    ensures { result ≡ parameter_fits 64 before (row_of row.entry) }
 {
     if before == 0 {
-        if !is_def(part) {
-            return false;
-        }
-        return value.len() == 0;
+        return is_def(row.part) && row.value.is_empty();
     }
-    if MOST_ROWS <= before {
-        return false;
-    }
-    step_right(part, name, value)
+    before < MOST_ROWS && step_right(row)
 }
 
 // A row behind `def`. A cell that its step does not use is empty.
-fn step_right(part: &[u8], name: &[u8], value: &[u8]) -> bool
-    ensures { result ≡ step_right (row_with part.now name.now value.now) }
+fn step_right(row: Row) -> bool
+    ensures { result ≡ step_right (row_of row.entry) }
 {
-    match code_of(part) {
+    match code_of(row.part) {
         0 => false,
-        1 => value.len() == 0,
-        2 => value.len() == 0,
-        3 => is_value(value),
-        _ => both_empty(name, value),
+        1 | 2 => row.value.is_empty(),
+        3 => is_value(row.value),
+        _ => row.name.is_empty() && row.value.is_empty(),
     }
 }
 
@@ -52,20 +47,9 @@ pub(crate) fn call_row_right(counts: Counts, part: CallPart, name: &[u8], value:
         CallPart::Positional => plain_right(counts.p, name, value),
         CallPart::Named => named_right(counts.n, value),
         CallPart::Star => star_right(is_list(value), counts.star_kind, name, value),
-        CallPart::Item => {
-            if counts.star_kind != 1 {
-                return false;
-            }
-            plain_right(counts.s, name, value)
-        }
+        CallPart::Item => counts.star_kind == 1 && plain_right(counts.s, name, value),
         CallPart::Double => star_right(is_dict(value), counts.double_kind, name, value),
-        CallPart::Entry => {
-            if counts.double_kind != 1 {
-                return false;
-            }
-            entry_right(counts.d, name, value)
-        }
-        CallPart::Unknown => false,
+        CallPart::Entry => counts.double_kind == 1 && entry_right(counts.d, name, value),
     }
 }
 
@@ -73,65 +57,33 @@ pub(crate) fn call_row_right(counts: Counts, part: CallPart, name: &[u8], value:
 fn plain_right(before: usize, name: &[u8], value: &[u8]) -> bool
     ensures { result ≡ (is_empty name.now && is_value value.now && ltb before 64) }
 {
-    if name.len() != 0 {
-        return false;
-    }
-    named_right(before, value)
+    name.is_empty() && named_right(before, value)
 }
 
 // A value with any name.
 fn named_right(before: usize, value: &[u8]) -> bool
     ensures { result ≡ (is_value value.now && ltb before 64) }
 {
-    if MOST <= before {
-        return false;
-    }
-    is_value(value)
+    before < MOST && is_value(value)
 }
 
 // A value with a key, which is written like a value.
 fn entry_right(before: usize, name: &[u8], value: &[u8]) -> bool
     ensures { result ≡ (is_value name.now && is_value value.now && ltb before 64) }
 {
-    if !is_value(name) {
-        return false;
-    }
-    named_right(before, value)
+    is_value(name) && named_right(before, value)
 }
 
 // A star or a double star, of which there was none: its value is what it takes (`one`) or something else.
 fn star_right(one: bool, kind: u64, name: &[u8], value: &[u8]) -> bool
     ensures { result ≡ (is_empty name.now && (one || is_other value.now) && eqb kind 0) }
 {
-    if name.len() != 0 {
-        return false;
-    }
-    if kind != 0 {
-        return false;
-    }
-    if one {
-        return true;
-    }
-    is_other(value)
-}
-
-// A step that uses neither its name nor its value.
-fn both_empty(name: &[u8], value: &[u8]) -> bool
-    ensures { result ≡ (is_empty name.now && is_empty value.now) }
-{
-    if name.len() != 0 {
-        return false;
-    }
-    value.len() == 0
+    name.is_empty() && kind == 0 && (one || is_other(value))
 }
 
 // Does a cell hold a value?
 fn is_value(cell: &[u8]) -> bool
     ensures { result ≡ is_value cell.now }
 {
-    match read_cell(cell) {
-        Cell::Is(_) => true,
-        Cell::Text => true,
-        Cell::Not => false,
-    }
+    read_cell(cell).is_some()
 }

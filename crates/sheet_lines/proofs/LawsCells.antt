@@ -1,27 +1,45 @@
--- The cells of a line by where the searches for commas ended (01, sheets): one cell, two, three, or more; then how long each of three is.
+-- Pieces and the cells of a line (01, sheets), first as the search for a comma parts it (`halves_found`, `halves_none`), then as they are counted: one cell,
+-- two, three, or more; then how long each of three is.
 -- Assumes nothing.
-use mathlib.Core.Path.{◌≡◌, refl}
-use mathlib.Core.Bool.{Bool, true, false, cond, ◌&&◌, false≢true}
+use mathlib.Core.Path.{◌≡◌, refl, sym, ap, ◌∙◌}
+use mathlib.Core.Bool.{Bool, true, false, cond, ◌&&◌}
 use mathlib.Core.List.{List, [], ◌∷◌}
 use Prim.Native.Nat.{ℕ, suc, ◌+◌, ◌-◌, ◌≤◌, ◌<◌}
 use native.Mathlib.Numerals.{add-one}
 use native.Mathlib.Omega.{arith}
 use lib.Dec.{eqb, leb}
-use lib.ListN.{length}
+use lib.ListN.{length, take, drop, length-drop}
+use lib.Seq.{length-take-le}
 use borrow.Author.Tests.{ne_eqb}
 use Rattle.rules.specs.SheetLines.{before, split, cells_in, three_cells}
-use Rattle.sheet_lines.specs.Piece.{piece, PieceEnd}
-use Rattle.sheet_lines.specs.Line.{three_pieces, Apart, CellsRead}
-use Rattle.sheet_lines.specs.declared.line.Cells.{Cells}
-use Rattle.sheet_lines.proofs.LawsPiece.{piece_length, split_next, split_end}
+use Rattle.sheet_lines.specs.Piece.{piece, PieceEnd, Halves}
+use Rattle.sheet_lines.proofs.LawsPiece.{split_next, split_end}
+use Rattle.sheet_lines.proofs.LawsLines.{piece_to_end}
 
--- a line that is not right
-pub not_read : (right : Bool) (input : List ℕ) (from to : ℕ) (r : Cells) → r.right ≡ false → right ≡ false → CellsRead right input from to r
-not_read right input from to r e f =
-    record { told = cc; commas = λ h. let z : false ≡ true = cc in absurd (false≢true z); cells = λ h. let z : false ≡ true = cc in absurd (false≢true z) }
+-- ---- parted at a mark
+
+module _ {mark : ℕ} {bytes : List ℕ} where
+  -- the bytes before a mark that was found and those behind it
+  pub halves_found : {at : ℕ} → PieceEnd mark bytes 0 (length bytes) at → at < length bytes
+      → Halves mark bytes (take at bytes) (take (length bytes - (at + 1)) (drop (at + 1) bytes))
+  unfolding piece
+  halves_found {at} found h =
+      let z : at - 0 ≡ at = omega arith in
+      let next : split mark (piece bytes 0 (length bytes)) ≡ take (at - 0) bytes ∷ split mark (take (length bytes - suc at) (drop (suc at) bytes)) =
+      split_next found h in
+      record {
+        parted = rw (add-one at) (ap (split mark) (sym (piece_to_end bytes 0)) ∙ rw z at next);
+        shorter = omega (arith, length-take-le (length bytes - (at + 1)) (drop (at + 1) bytes) (simp length-drop (omega arith)));
+      }
+
+  -- none was found
+  pub halves_none : PieceEnd mark bytes 0 (length bytes) (length bytes) → split mark bytes ≡ bytes ∷ []
+  halves_none found = rw (piece_to_end bytes 0) at (split_end found refl)
+
+-- ---- how many there are
 
 -- there is a piece at least
-split_some : (mark : ℕ) (bytes : List ℕ) → 1 ≤ length (split mark bytes)
+pub split_some : (mark : ℕ) (bytes : List ℕ) → 1 ≤ length (split mark bytes)
 split_some mark [] = omega arith
 split_some mark (b ∷ bs) = go (eqb b mark) (split mark bs)
   where
@@ -30,35 +48,26 @@ split_some mark (b ∷ bs) = go (eqb b mark) (split mark bs)
     go false [] = omega arith
     go false (p ∷ ps) = omega arith
 
-module _ (input : List ℕ) (from to first : ℕ) (a : PieceEnd 44 input from to first) where
-  pub one_cell : first ≡ to → eqb (length (cells_in (piece input from to))) 3 ≡ false
+module _ (line : List ℕ) where
+  pub one_cell : split 44 line ≡ line ∷ [] → eqb (length (cells_in line)) 3 ≡ false
   unfolding cells_in
-  one_cell e = rw (split_end a e)
+  one_cell e = rw e
 
-  module _ (h : first < to) (second : ℕ) (b : PieceEnd 44 input (suc first) to second) where
-    pub two_cells : second ≡ to → eqb (length (cells_in (piece input from to))) 3 ≡ false
+  module _ {first rest : List ℕ} (a : Halves 44 line first rest) where
+    pub two_cells : split 44 rest ≡ rest ∷ [] → eqb (length (cells_in line)) 3 ≡ false
     unfolding cells_in
-    two_cells e = rw (split_next a h, split_end b e)
+    two_cells e = rw (a.parted, e)
 
-    module _ (k : second < to) (third : ℕ) (c : PieceEnd 44 input (suc second) to third) where
-      pub more_cells : third < to → eqb (length (cells_in (piece input from to))) 3 ≡ false
+    module _ {second third : List ℕ} (b : Halves 44 rest second third) where
+      pub more_cells : {fourth others : List ℕ} → Halves 44 third fourth others → eqb (length (cells_in line)) 3 ≡ false
       unfolding cells_in
-      more_cells l =
-          rw (split_next a h, split_next b k, split_next c l)
-          (ne_eqb (suc (suc (suc (length (split 44 (piece input (suc third) to)))))) 3 (λ e. let n : 1 ≤ length (split 44 (piece input (suc third) to)) = split_some 44 (piece input (suc third) to) in omega arith))
+      more_cells {fourth} {others} c =
+          rw (a.parted, b.parted, c.parted)
+          (ne_eqb (suc (suc (suc (length (split 44 others))))) 3 (λ e. let n : 1 ≤ length (split 44 others) = split_some 44 others in omega arith))
 
-      three_pieces_lem : third ≡ to → cells_in (piece input from to) ≡ three_pieces input from to first second
+      pub three_read : split 44 third ≡ third ∷ [] → cells_in line ≡ first ∷ second ∷ third ∷ []
       unfolding cells_in
-      three_pieces_lem e = rw (split_next a h, split_next b k, split_end c e)
-
-      pub three_read : third ≡ to
-          → CellsRead (eqb (length (cells_in (piece input from to))) 3) input from to (record { right = true; first = first; second = second })
-      three_read e =
-          record {
-            told = rw (three_pieces_lem e);
-            commas = λ t. record { after = a.after; apart = b.after; within = k };
-            cells = λ t. three_pieces_lem e;
-          }
+      three_read e = rw (a.parted, b.parted, e)
 
 -- ---- how long they are
 
@@ -68,14 +77,11 @@ and_three true true false = refl
 and_three true false z = refl
 and_three false y z = refl
 
-pub three_short : (input : List ℕ) (from to first second : ℕ) → Apart from to first second → to ≤ length input
-    → cells_in (piece input from to) ≡ three_pieces input from to first second
-    → three_cells (cells_in (piece input from to)) ≡ leb (first - from) 255 && leb (second - (first + 1)) 255 && leb (to - (second + 1)) 255
+pub three_short : (line : List ℕ) {first second third : List ℕ} → cells_in line ≡ first ∷ second ∷ third ∷ []
+    → three_cells (cells_in line) ≡ leb (length first) 255 && leb (length second) 255 && leb (length third) 255
 unfolding three_cells
-three_short input from to first second a h e =
-    rw
-    (e, piece_length input from first a.after (omega arith), piece_length input (suc first) second (omega arith) (omega arith), piece_length input (suc second) to (omega arith) h, add-one first, add-one second)
-    (and_three (leb (first - from) 255) (leb (second - suc first) 255) (leb (to - suc second) 255))
+three_short line {first} {second} {third} e =
+    rw e (and_three (leb (length first) 255) (leb (length second) 255) (leb (length third) 255))
 
 -- more or fewer cells than three are never right
 pub not_three : (cells : List (List ℕ)) → eqb (length cells) 3 ≡ false → three_cells cells ≡ false

@@ -1,14 +1,8 @@
--- The words of a row (01, sheets): where a word stands in a list of words, and what a row of a call adds, as the code says it and as `rules` does.
-use Rattle.std.specs.Prelude.{cond, List, [], ◌∷◌, ℕ, suc}
-use Rattle.rules.specs.Text.{same_bytes}
+-- The words of a row (01, sheets): what a row of a call adds, as the code says it and as `rules` does.
+use Rattle.std.specs.Prelude.{Option, Some, None}
 use Rattle.rules.specs.SheetRows as rules
 use Rattle.sheet_lines.specs.declared.word.CallPart.{CallPart}
-use Rattle.sheet_lines.specs.declared.word.CallPart.TheVariants.{Positional, Named, Star, Item, Double, Entry, Unknown}
-
--- the index of the first of some words that is the word, counted from `first`; `other` where it is none of them
-abbrev pub position_of : List ℕ → ℕ → ℕ → List (List ℕ) → ℕ
-position_of word first other [] = other
-position_of word first other (w ∷ ws) = cond (same_bytes word w) first (position_of word (suc first) other ws)
+use Rattle.sheet_lines.specs.declared.word.CallPart.TheVariants.{Positional, Named, Star, Item, Double, Entry}
 
 abbrev pub call_part_of : CallPart → rules.CallPart
 call_part_of Positional = rules.positional
@@ -17,4 +11,8 @@ call_part_of Star = rules.star
 call_part_of Item = rules.item
 call_part_of Double = rules.double
 call_part_of Entry = rules.entry
-call_part_of Unknown = rules.unknown_part
+
+-- the part that a row's first cell names, if it names one
+abbrev pub part_read : Option CallPart → rules.CallPart
+part_read (Some part) = call_part_of part
+part_read None = rules.unknown_part

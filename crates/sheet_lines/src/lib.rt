@@ -1,5 +1,5 @@
 // From bytes to rows (01, sheets and the program bind): lines, cells, headers and rows. The input stays one lent run of bytes,
-// and a piece of it is a pair of indices. Nothing here knows what a row means, but for its words.
+// and a line, a cell and a row are parts of it. Nothing here knows what a row means, but for its words.
 #![tactic(auto)]
 
 pub mod header;

@@ -1,15 +1,16 @@
 // The words of a row (01, sheets): what its part names, and which star a value names. Each is compared as a whole.
-ghost use Rattle.std.specs.Prelude.{◌≡◌, ◌≤◌};
+ghost use Rattle.std.specs.Prelude.{◌≡◌};
+ghost use Rattle.std.specs.List.{position_from};
+ghost use Rattle.rules.specs.Text.{same_bytes};
 ghost use Rattle.rules.specs.SheetLines.{Row, cells_in};
 ghost use Rattle.rules.specs.SheetRows.{is_def, code_of, call_part, is_list, is_dict, is_other};
-ghost use Rattle.sheet_lines.specs.Word.{call_part_of, position_of};
+ghost use Rattle.sheet_lines.specs.Word.{part_read};
 
 use crate::line::COMMA;
-use crate::piece::end_of;
 use cells::text::same;
 
 // What a row of a call adds.
-#[derive(Clone, Copy)]
+#[derive(Clone, Copy, Debug, PartialEq, Eq)]
 pub enum CallPart {
     Positional,
     Named,
@@ -17,25 +18,14 @@ pub enum CallPart {
     Item,
     Double,
     Entry,
-    Unknown,
 }
 
-// Where a word stands among the cells of a line, counted from `first`; `other` where it is none of them. A table of words is such a line.
-pub(crate) fn position(word: &[u8], line: &[u8], first: usize, other: usize) -> usize
-    requires { first ≤ 1 }
-    ensures { result ≡ position_of word.now first other (cells_in line.now) }
+// Where a word stands among the cells of a line, counted from 0. A table of words is such a line.
+pub(crate) fn position(word: &[u8], line: &[u8]) -> Option<usize>
+    ensures { result ≡ position_from (same_bytes word.now) 0 (cells_in line.now) }
 {
-    let mut number = first;
-    let mut at = 0;
-    while at <= line.len() {
-        let end = end_of(COMMA, line, at, line.len());
-        if same(word, &line[at..end]) {
-            return number;
-        }
-        number += 1;
-        at = end + 1;
-    }
-    other
+    line.split(|b| *b == COMMA)
+        .position(|cell| same(word, cell))
 }
 
 // Is it the row that names the function? Whatever its other cells hold.
@@ -49,26 +39,24 @@ pub fn is_def(part: &[u8]) -> bool
 pub fn code_of(part: &[u8]) -> u64
     ensures { result ≡ code_of part.now }
 {
-    position(
-        part,
-        b"required,optional,defaulted,/,*,*args,**kwargs",
-        1,
-        0,
-    ) as u64
+    match position(part, b"required,optional,defaulted,/,*,*args,**kwargs") {
+        Some(number) => number as u64 + 1,
+        None => 0,
+    }
 }
 
 // What a row of a call adds, by its part.
-pub fn call_part(part: &[u8]) -> CallPart
-    ensures { call_part_of result ≡ call_part part.now }
+pub fn call_part(part: &[u8]) -> Option<CallPart>
+    ensures { part_read result ≡ call_part part.now }
 {
-    match position(part, b"pos,named,star,item,dstar,entry", 1, 0) {
-        1 => CallPart::Positional,
-        2 => CallPart::Named,
-        3 => CallPart::Star,
-        4 => CallPart::Item,
-        5 => CallPart::Double,
-        6 => CallPart::Entry,
-        _ => CallPart::Unknown,
+    match position(part, b"pos,named,star,item,dstar,entry")? {
+        0 => Some(CallPart::Positional),
+        1 => Some(CallPart::Named),
+        2 => Some(CallPart::Star),
+        3 => Some(CallPart::Item),
+        4 => Some(CallPart::Double),
+        5 => Some(CallPart::Entry),
+        _ => None,
     }
 }
 

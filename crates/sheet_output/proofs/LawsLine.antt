@@ -5,10 +5,9 @@ use mathlib.Core.Bool.{Bool, true, false, cond, ◌&&◌, ◌||◌, or-false, fa
 use mathlib.Core.List.{List, [], ◌∷◌, ◌++◌, append_assoc}
 use Prim.Native.Nat.{ℕ, zero, suc, ◌+◌, ◌≤◌, ◌<◌, ◌^◌}
 use native.Mathlib.Omega.{arith}
-use lib.Dec.{eqb, ltb, leb}
+use lib.Dec.{eqb, leb}
 use lib.ListN.{length, length-append}
 use lib.Ieee.{binary64, nan_bits, of_bits}
-use borrow.Author.Tests.{le-ltb}
 use Rattle.rules.specs.Text.{is_text, bytes_at, inside, start_of, size_of, payload_of}
 use Rattle.rules.specs.Value as rules
 use Rattle.rules.specs.Parameters.{ParameterKind, required, optional, defaulted, args, kwargs, plain, act_of}
@@ -24,10 +23,9 @@ use Rattle.cells.specs.Out.{Put}
 use Rattle.cells.specs.Text.{text_of, read_text, part_at}
 use Rattle.cells.specs.Value.{value, pair_of, cells_of, real_of, value_as, value_of, well_formed_slot, read_slot}
 use Rattle.cells.specs.declared.text.Text.{Text}
-use Rattle.cells.specs.declared.text.ReadText.TheVariants as text
 use Rattle.cells.specs.declared.value.Value.{Value}
 use Rattle.cells.specs.declared.value.Value.TheVariants.{Real, Nan}
-use Rattle.cells.specs.declared.value.ReadValue.TheVariants.{Is, Not}
+use Rattle.std.specs.Prelude.{Some, None}
 use Rattle.cells.proofs.LawsValue.{default_cells, argument_cells}
 use Rattle.cells.proofs.LawsOut.{put_same, put_rest, put_then}
 use Rattle.builder.specs.Params.{kind_for}
@@ -81,22 +79,30 @@ shown_for_length spec call code v = shown_as_length spec call (kind_for (act_of 
 
 -- ---- by the code of a parameter
 
-pub plain_none : (code : ℕ) → code < 1 → plain_code code ≡ false
+pub plain_three : (code : ℕ) → 1 ≤ code → code ≤ 3 → plain_code code ≡ true
 unfolding plain_code
-plain_none zero h = refl
-plain_none (suc code) h = absurd (omega arith)
+plain_three zero h m = absurd (omega arith)
+plain_three (suc zero) h m = refl
+plain_three (suc (suc zero)) h m = refl
+plain_three (suc (suc (suc zero))) h m = refl
+plain_three (suc (suc (suc (suc code)))) h m = absurd (omega arith)
 
-pub plain_below : (code : ℕ) → 1 ≤ code → plain_code code ≡ ltb code 4
+pub plain_past : (code : ℕ) → 3 < code → plain_code code ≡ false
 unfolding plain_code
-plain_below zero h = absurd (omega arith)
-plain_below (suc zero) h = refl
-plain_below (suc (suc zero)) h = refl
-plain_below (suc (suc (suc zero))) h = refl
-plain_below (suc (suc (suc (suc zero)))) h = refl
-plain_below (suc (suc (suc (suc (suc zero))))) h = refl
-plain_below (suc (suc (suc (suc (suc (suc zero)))))) h = refl
-plain_below (suc (suc (suc (suc (suc (suc (suc zero))))))) h = refl
-plain_below (suc (suc (suc (suc (suc (suc (suc (suc code)))))))) h = sym (le-ltb (suc (suc (suc (suc (suc (suc (suc (suc code)))))))) 4 (omega arith))
+plain_past zero h = absurd (omega arith)
+plain_past (suc zero) h = absurd (omega arith)
+plain_past (suc (suc zero)) h = absurd (omega arith)
+plain_past (suc (suc (suc zero))) h = absurd (omega arith)
+plain_past (suc (suc (suc (suc zero)))) h = refl
+plain_past (suc (suc (suc (suc (suc zero))))) h = refl
+plain_past (suc (suc (suc (suc (suc (suc zero)))))) h = refl
+plain_past (suc (suc (suc (suc (suc (suc (suc zero))))))) h = refl
+plain_past (suc (suc (suc (suc (suc (suc (suc (suc code)))))))) h = refl
+
+pub plain_zero : (code : ℕ) → code < 1 → plain_code code ≡ false
+unfolding plain_code
+plain_zero zero h = refl
+plain_zero (suc code) h = absurd (omega arith)
 
 slot_name_plain : (kind : ParameterKind) (bytes : List ℕ) → plain kind ≡ true → slot_name kind bytes ≡ bytes
 slot_name_plain required bytes e = refl
@@ -151,21 +157,21 @@ module _ (spec call : List ℕ) (v : rules.Value) where
 -- ---- what was read
 
 -- a name that was read as a text, and one that was not
-pub name_shown : (area : List ℕ) (payload : ℕ) (t : Text) → read_text 0 area payload ≡ text.Is t → part_at area payload ≡ shown_name area payload
+pub name_shown : (area : List ℕ) (payload : ℕ) (t : Text) → read_text 0 area payload ≡ Some t → part_at area payload ≡ shown_name area payload
 unfolding read_text shown_name part_at is_text
 name_shown area payload t e = go (inside area payload) (leb 0 (size_of payload)) (leb (size_of payload) 64) e
   where
-    go : (i l m : Bool) → cond (i && l && m) (text.Is (text_of payload)) text.Not ≡ text.Is t → cond i (bytes_at area payload) [] ≡ cond (i && l && m) (bytes_at area payload) []
+    go : (i l m : Bool) → cond (i && l && m) (Some (text_of payload)) None ≡ Some t → cond i (bytes_at area payload) [] ≡ cond (i && l && m) (bytes_at area payload) []
     go true true true f = refl
     go true true false f = let z : ◌≡◌ {A = ℕ} 0 1 = cc in absurd (omega arith)
     go true false m f = let z : ◌≡◌ {A = ℕ} 0 1 = cc in absurd (omega arith)
     go false l m f = refl
 
-pub name_hidden : (area : List ℕ) (payload : ℕ) → read_text 0 area payload ≡ text.Not → [] ≡ shown_name area payload
+pub name_hidden : (area : List ℕ) (payload : ℕ) → read_text 0 area payload ≡ None → [] ≡ shown_name area payload
 unfolding read_text shown_name
 name_hidden area payload e = go (is_text 0 area payload) e
   where
-    go : (b : Bool) → cond b (text.Is (text_of payload)) text.Not ≡ text.Not → [] ≡ cond b (bytes_at area payload) []
+    go : (b : Bool) → cond b (Some (text_of payload)) None ≡ None → [] ≡ cond b (bytes_at area payload) []
     go true f = let z : ◌≡◌ {A = ℕ} 0 1 = cc in absurd (omega arith)
     go false f = refl
 
@@ -194,15 +200,15 @@ inside_as spec call (suc (suc (suc (suc (suc (suc (suc (suc kind)))))))) payload
 
 -- a value that was read: its text lies inside its area, it is printed as its two cells are; and no value
 module _ (spec call : List ℕ) (kind payload : ℕ) where
-  read_well : (v : Value) → read_slot spec call kind payload ≡ Is v → (well_formed_slot spec call (value kind payload) ≡ true) × (value_as kind payload ≡ v)
+  read_well : (v : Value) → read_slot spec call kind payload ≡ Some v → (well_formed_slot spec call (value kind payload) ≡ true) × (value_as kind payload ≡ v)
   unfolding read_slot
   read_well v e = go (well_formed_slot spec call (value kind payload)) e
     where
-      go : (b : Bool) → cond b (Is (value_as kind payload)) Not ≡ Is v → (b ≡ true) × (value_as kind payload ≡ v)
+      go : (b : Bool) → cond b (Some (value_as kind payload)) None ≡ Some v → (b ≡ true) × (value_as kind payload ≡ v)
       go true f = (refl, cc)
       go false f = let z : ◌≡◌ {A = ℕ} 0 1 = cc in absurd (omega arith)
 
-  pub value_shown : (v : Value) → payload < 2 ^ 64 → read_slot spec call kind payload ≡ Is v → print_value spec call (pair_of (cells_of v)) ≡ shown_value spec call (value kind payload)
+  pub value_shown : (v : Value) → payload < 2 ^ 64 → read_slot spec call kind payload ≡ Some v → print_value spec call (pair_of (cells_of v)) ≡ shown_value spec call (value kind payload)
   unfolding shown_value well_formed_slot value_of
   value_shown v h e =
       ap (print_value spec call) (sym (ap (λ x. pair_of (cells_of x)) (read_well v e).1) ∙ back (eqb kind rules.spec_text) (read_well v e).0)
@@ -212,14 +218,14 @@ module _ (spec call : List ℕ) (kind payload : ℕ) where
       back true w = default_cells spec (value kind payload) h w
       back false w = argument_cells call (value kind payload) h w
 
-  pub value_inside : (v : Value) → read_slot spec call kind payload ≡ Is v → Printable spec call v
+  pub value_inside : (v : Value) → read_slot spec call kind payload ≡ Some v → Printable spec call v
   value_inside v e = subst (Printable spec call) (read_well v e).1 (inside_as spec call kind payload (read_well v e).0)
 
-  pub value_hidden : read_slot spec call kind payload ≡ Not → [] ≡ shown_value spec call (value kind payload)
+  pub value_hidden : read_slot spec call kind payload ≡ None → [] ≡ shown_value spec call (value kind payload)
   unfolding read_slot shown_value
   value_hidden e = go (well_formed_slot spec call (value kind payload)) e
     where
-      go : (b : Bool) → cond b (Is (value_as kind payload)) Not ≡ Not → [] ≡ cond b (print_value spec call (value kind payload)) []
+      go : (b : Bool) → cond b (Some (value_as kind payload)) None ≡ None → [] ≡ cond b (print_value spec call (value kind payload)) []
       go true f = let z : ◌≡◌ {A = ℕ} 0 1 = cc in absurd (omega arith)
       go false f = refl
 

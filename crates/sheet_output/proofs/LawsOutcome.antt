@@ -5,8 +5,6 @@ use mathlib.Core.List.{List, [], ◌∷◌, ◌++◌, append_assoc}
 use Prim.Native.Nat.{ℕ, ◌+◌, ◌*◌, ◌≤◌}
 use native.Mathlib.Omega.{arith}
 use lib.ListN.{length, length-append, length-take}
-use types.Run.{OneOf, miss}
-use denote.Enum.Declared.{tag_of}
 use Rattle.rules.specs.Text.{inside, bytes_at, size_of}
 use Rattle.rules.specs.SheetValue.{decimal}
 use Rattle.rules.specs.SheetOutput.{line, refusal_text}
@@ -18,11 +16,11 @@ use Rattle.cells.proofs.LawsOut.{put_same, put_rest, put_then}
 use Rattle.builder.specs.declared.params.Parameters.{Parameters}
 use Rattle.answers.specs.Answer.{name_bytes}
 use Rattle.answers.specs.declared.answer.Counts.{Counts}
-use Rattle.answers.specs.declared.answer.Collected.{Collected}
-use Rattle.answers.specs.declared.answer.Collected.TheVariants.{Accepted, Record, ArgsArrayIsNotIterable, RepeatedParameter, KwArgsIsNotDict, ArgsValueIsNotString, RepeatedArg, MissingPositionalOnly, Missing, MissingNamedOnly, ExtraPositionalArg, ExtraNamedArg}
-use Rattle.answers.specs.contracts.answer.Collected.{the_type}
+use Rattle.std.specs.Prelude.{Err}
+use Rattle.answers.specs.declared.answer.Refusal.{Refusal}
+use Rattle.answers.specs.declared.answer.Refusal.TheVariants.{Record, ArgsArrayIsNotIterable, RepeatedParameter, KwArgsIsNotDict, ArgsValueIsNotString, RepeatedArg, MissingPositionalOnly, Missing, MissingNamedOnly, ExtraPositionalArg, ExtraNamedArg}
 use Rattle.sheet_output.specs.Parts.{lines_to, slot_line_at, stars, names, remainder_text}
-use Rattle.sheet_output.specs.Outcome.{heading, count_line, closing, refused_cells, refused_shown, accepted_shown, outcome_shown, Limits}
+use Rattle.sheet_output.specs.Outcome.{heading, count_line, closing, refused_cells, refused_shown, refusal_shown, accepted_shown, Limits}
 use Rattle.sheet_output.proofs.LawsLine.{put_both}
 use Rattle.sheet_output.proofs.LawsParts.{lines_length, slot_short, remainder_length}
 
@@ -73,9 +71,8 @@ part_length area payload = go (inside area payload)
     go true = simp length-take (omega arith)
     go false = omega arith
 
-pub name_length : (spec call : List ℕ) (r : Collected) → length (name_bytes spec call r) ≤ 255
-name_length spec call (Accepted c) = omega arith
-name_length spec call (Record n) = omega arith
+pub name_length : (spec call : List ℕ) (r : Refusal) → length (name_bytes spec call (Err r)) ≤ 255
+name_length spec call (Record q) = omega arith
 name_length spec call ArgsArrayIsNotIterable = omega arith
 name_length spec call (RepeatedParameter name) = part_length spec name
 name_length spec call KwArgsIsNotDict = omega arith
@@ -87,26 +84,19 @@ name_length spec call (MissingNamedOnly name) = part_length spec name
 name_length spec call (ExtraPositionalArg n) = omega arith
 name_length spec call (ExtraNamedArg n name) = part_length call name
 
--- which variants are refusals that are shown with a name, by their place in the enum
-abbrev pub name_shown : List ℕ
-name_shown = 1 ∷ 2 ∷ 3 ∷ 4 ∷ 5 ∷ 6 ∷ 7 ∷ 8 ∷ 9 ∷ 11 ∷ []
-
-pub refusal_shown
-    : (spec call : List ℕ) (p : Parameters) (board : List ℕ) (r : Collected)
-    → OneOf name_shown (tag_of the_type r)
-    → refused_shown spec call r ≡ outcome_shown spec call p board r
-refusal_shown spec call p board (Accepted c) h = absurd (miss name_shown 0 tt h)
-refusal_shown spec call p board (Record n) h = refl
-refusal_shown spec call p board ArgsArrayIsNotIterable h = refl
-refusal_shown spec call p board (RepeatedParameter name) h = refl
-refusal_shown spec call p board KwArgsIsNotDict h = refl
-refusal_shown spec call p board ArgsValueIsNotString h = refl
-refusal_shown spec call p board (RepeatedArg name) h = refl
-refusal_shown spec call p board (MissingPositionalOnly name) h = refl
-refusal_shown spec call p board (Missing name) h = refl
-refusal_shown spec call p board (MissingNamedOnly name) h = refl
-refusal_shown spec call p board (ExtraPositionalArg n) h = absurd (miss name_shown 10 tt h)
-refusal_shown spec call p board (ExtraNamedArg n name) h = refl
+-- a refusal that is not for values that are left over is shown with its name
+pub refusal_named : (spec call : List ℕ) (r : Refusal) → ((n : ℕ) → r ≡ ExtraPositionalArg n → ⊥) → refused_shown spec call r ≡ refusal_shown spec call r
+refusal_named spec call (Record q) h = refl
+refusal_named spec call ArgsArrayIsNotIterable h = refl
+refusal_named spec call (RepeatedParameter name) h = refl
+refusal_named spec call KwArgsIsNotDict h = refl
+refusal_named spec call ArgsValueIsNotString h = refl
+refusal_named spec call (RepeatedArg name) h = refl
+refusal_named spec call (MissingPositionalOnly name) h = refl
+refusal_named spec call (Missing name) h = refl
+refusal_named spec call (MissingNamedOnly name) h = refl
+refusal_named spec call (ExtraPositionalArg n) h = absurd (h n refl)
+refusal_named spec call (ExtraNamedArg n name) h = refl
 
 -- ---- an accepted call's text, put part by part
 

@@ -1,7 +1,6 @@
 -- Lines that a loop writes one behind the other (01, sheets): how far they reach, one more of them; and how long the lines of a board are.
 -- Assumes nothing.
 use mathlib.Core.Path.{◌≡◌, refl, sym, ap}
-use mathlib.Core.Bool.{Bool, true, false}
 use mathlib.Core.List.{List, [], ◌∷◌, ◌++◌}
 use Prim.Native.Nat.{ℕ, zero, suc, ◌+◌, ◌*◌, ◌≤◌, ◌<◌}
 use native.Mathlib.Nat.{mul-suc, mul-le-mul_left}
@@ -17,6 +16,8 @@ use Rattle.cells.specs.Record.{pair_at}
 use Rattle.cells.proofs.LawsOut.{put_none, put_same}
 use Rattle.builder.specs.declared.params.Parameters.{Parameters}
 use Rattle.sheet_output.specs.Line.{shown_name, shown_value, name_for, shown_for}
+use Rattle.sheet_output.specs.declared.parts.Sort.{Sort}
+use Rattle.sheet_output.specs.declared.parts.Sort.TheVariants.{Star, Named}
 use Rattle.sheet_output.specs.Parts.{lines_to, slot_line, slot_line_at, star_line, star_line_at, named_line, named_line_at, element_line, element_most, remainder_text, remainder_most}
 use Rattle.sheet_output.specs.declared.parts.Remainder.{Remainder}
 use Rattle.sheet_output.proofs.LawsLine.{shown_name_length, shown_value_length, name_for_length, shown_for_length, put_both}
@@ -79,14 +80,14 @@ module _ (spec call : List ℕ) where
         shown_value_length spec call v,
       )
 
-  pub element_short : (named : Bool) (board : List ℕ) (from k : ℕ) → length (element_line named spec call board from k) ≤ element_most named
-  element_short true board from k = named_short board from k
-  element_short false board from k = star_short board from k
+  pub element_short : (sort : Sort) (board : List ℕ) (from k : ℕ) → length (element_line sort spec call board from k) ≤ element_most sort
+  element_short Star board from k = star_short board from k
+  element_short Named board from k = named_short board from k
 
   -- a remainder's lines
   pub remainder_length : (board : List ℕ) (r : Remainder) → length (remainder_text spec call board r) ≤ remainder_most r
   remainder_length board r =
-      lines_length (element_line r.named spec call board r.from) (element_most r.named) (element_short r.named board r.from) r.count
+      lines_length (element_line r.sort spec call board r.from) (element_most r.sort) (element_short r.sort board r.from) r.count
 
 -- one more line of at most `w` bytes
 pub line_more : (w k count : ℕ) → k < count → w * k + w ≤ w * count

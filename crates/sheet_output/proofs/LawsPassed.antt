@@ -41,8 +41,8 @@ use Rattle.calls.proofs.LawsEach.{each_length}
 use Rattle.calls.proofs.LawsCall.{parts_positionals, parts_named, parts_items, parts_entries, form_lengths, form_parts, call_form, lengths_few}
 use Rattle.answers.specs.Answer.{told, counts_of}
 use Rattle.answers.specs.declared.answer.Counts.{Counts}
-use Rattle.answers.specs.declared.answer.Collected.{Collected}
-use Rattle.answers.specs.declared.answer.Collected.TheVariants.{Accepted}
+use Rattle.std.specs.Prelude.{Result, Ok}
+use Rattle.answers.specs.declared.answer.Refusal.{Refusal}
 use Rattle.sheet_output.specs.Outcome.{Limits, OutcomeRoom, OutcomeReady}
 use Rattle.sheet_output.proofs.LawsShown.{slot_is_printable}
 
@@ -296,7 +296,7 @@ module _ (spec_cells spec call_cells call before : List ℕ) where
       (λ e. list_few 64 spec_cells spec (list_fine (records_fine e))) (λ e. positionals_few 64 call_cells call (call_fine (records_fine e)))
       (λ e. named_few 64 call_cells call (call_fine (records_fine e)))
 
-  module _ (l : ParametersSpec) (list : ask_parameters 64 spec_cells spec ≡ rules.fine → IsList spec l qs) (board : List ℕ) (r : Collected) (ends : told r board ≡ collection 64 64 spec_cells spec call_cells call before) where
+  module _ (l : ParametersSpec) (list : ask_parameters 64 spec_cells spec ≡ rules.fine → IsList spec l qs) (board : List ℕ) (r : Result Counts Refusal) (ends : told r board ≡ collection 64 64 spec_cells spec call_cells call before) where
     pub collected_ready : OutcomeReady spec call l board r qs (positionals_of given) (named_of given) asked before
     unfolding collection
     collected_ready =
@@ -311,7 +311,7 @@ module _ (spec_cells spec call_cells call before : List ℕ) where
     unfolding collection placement.counts_of
     collected_room out h = record { limits = λ c e. limited c e asked (sym (ap (λ x. told x board) e) ∙ ends) refl; room = h }
       where
-        limited : (c : Counts) → r ≡ Accepted c → (a : rules.Answer) → accepted (counts_of c) board ≡ outcome_of a qs (positionals_of given) (named_of given) before → asked ≡ a → Limits l.params c
+        limited : (c : Counts) → r ≡ Ok c → (a : rules.Answer) → accepted (counts_of c) board ≡ outcome_of a qs (positionals_of given) (named_of given) before → asked ≡ a → Limits l.params c
         limited c e (rules.refuse n d) o s = let z : ◌≡◌ {A = ℕ} 0 1 = cc in absurd (omega arith)
         limited c e rules.fine o s =
             let passed : ask_records 64 64 spec_cells spec call_cells call before ≡ rules.fine = records_fine s in

@@ -32,8 +32,9 @@ use Rattle.builder.specs.declared.params.Parameters.{Parameters}
 use Rattle.builder.specs.declared.spec.ParametersSpec.{ParametersSpec}
 use Rattle.answers.specs.Answer as answers
 use Rattle.answers.specs.declared.answer.Counts.{Counts}
-use Rattle.answers.specs.declared.answer.Collected.{Collected}
-use Rattle.answers.specs.declared.answer.Collected.TheVariants.{Accepted, Record, ArgsArrayIsNotIterable, RepeatedParameter, KwArgsIsNotDict, ArgsValueIsNotString, RepeatedArg, MissingPositionalOnly, Missing, MissingNamedOnly, ExtraPositionalArg, ExtraNamedArg}
+use Rattle.std.specs.Prelude.{Result, Ok, Err}
+use Rattle.answers.specs.declared.answer.Refusal.{Refusal}
+use Rattle.answers.specs.declared.answer.Refusal.TheVariants.{Record, ArgsArrayIsNotIterable, RepeatedParameter, KwArgsIsNotDict, ArgsValueIsNotString, RepeatedArg, MissingPositionalOnly, Missing, MissingNamedOnly, ExtraPositionalArg, ExtraNamedArg}
 use Rattle.sheet_output.specs.Line.{shown_name, shown_value, shown_as, name_for, shown_for}
 use Rattle.sheet_output.specs.Parts.{lines_to, slot_line, slot_line_at, star_line, star_line_at, named_line, named_line_at}
 use Rattle.sheet_output.specs.Outcome.{heading, count_line, closing, accepted_shown, refused_shown, outcome_shown, OutcomeReady}
@@ -200,7 +201,7 @@ part_is spec call a payload e =
     (and_left (inside (area_of spec call a) payload && leb 0 (size_of payload)) (leb (size_of payload) 64) e))
 
 module _ (spec call : List ℕ) (l : ParametersSpec) (board : List ℕ) (qs : List Parameter) (P : List Value) (N : List Named) (asked : rules.Answer) (before : List ℕ) where
-  accepted_is : (c : Counts) → OutcomeReady spec call l board (Accepted c) qs P N asked before → accepted_shown spec call l.params board c ≡ outcome_text spec call qs P N (outcome_of asked qs P N before)
+  accepted_is : (c : Counts) → OutcomeReady spec call l board (Ok c) qs P N asked before → accepted_shown spec call l.params board c ≡ outcome_text spec call qs P N (outcome_of asked qs P N before)
   accepted_is c ready = go asked ready.answer ready.list ready.printable
     where
       go : (a : rules.Answer) → accepted (answers.counts_of c) board ≡ outcome_of a qs P N before
@@ -212,32 +213,32 @@ module _ (spec call : List ℕ) (l : ParametersSpec) (board : List ℕ) (qs : Li
           ap (λ x. accepted_shown spec call l.params x c) b ∙ accepted_shown_lem spec call l.params qs P N (q refl) (r refl) before c n
       go (rules.refuse n d) e q r = let z : ◌≡◌ {A = ℕ} 0 1 = cc in absurd (omega arith)
 
-  refused_is : (r : Collected) → outcome_shown spec call l.params board r ≡ outcome_text spec call qs P N (answers.told r board) → OutcomeReady spec call l board r qs P N asked before
+  refused_is : (r : Result Counts Refusal) → outcome_shown spec call l.params board r ≡ outcome_text spec call qs P N (answers.told r board) → OutcomeReady spec call l board r qs P N asked before
       → outcome_shown spec call l.params board r ≡ outcome_text spec call qs P N (outcome_of asked qs P N before)
   refused_is r e ready = e ∙ ap (outcome_text spec call qs P N) ready.answer
 
-  told_inside : (r : Collected) → OutcomeReady spec call l board r qs P N asked before → outcome_inside spec call (answers.told r board) ≡ true
+  told_inside : (r : Result Counts Refusal) → OutcomeReady spec call l board r qs P N asked before → outcome_inside spec call (answers.told r board) ≡ true
   told_inside r ready = ap (outcome_inside spec call) ready.answer ∙ asked_inside spec call asked qs P N before ready.detail
 
 -- what an answer and the board show is the text of the outcome that they are
-pub outcome_shown_lem : (spec call : List ℕ) (l : ParametersSpec) (board : List ℕ) (r : Collected) (qs : List Parameter) (P : List Value) (N : List Named) (asked : rules.Answer) (before : List ℕ)
+pub outcome_shown_lem : (spec call : List ℕ) (l : ParametersSpec) (board : List ℕ) (r : Result Counts Refusal) (qs : List Parameter) (P : List Value) (N : List Named) (asked : rules.Answer) (before : List ℕ)
     → OutcomeReady spec call l board r qs P N asked before → outcome_shown spec call l.params board r ≡ outcome_text spec call qs P N (outcome_of asked qs P N before)
 unfolding refused_shown bytes_at
-outcome_shown_lem spec call l board (Accepted c) qs P N asked before ready = accepted_is spec call l board qs P N asked before c ready
-outcome_shown_lem spec call l board (Record n) qs P N asked before ready = refused_is spec call l board qs P N asked before (Record n) refl ready
-outcome_shown_lem spec call l board ArgsArrayIsNotIterable qs P N asked before ready = refused_is spec call l board qs P N asked before ArgsArrayIsNotIterable refl ready
-outcome_shown_lem spec call l board (RepeatedParameter name) qs P N asked before ready =
-    refused_is spec call l board qs P N asked before (RepeatedParameter name) (ap (refusal_text 16) (part_is spec call rules.spec_area name (told_inside spec call l board qs P N asked before (RepeatedParameter name) ready))) ready
-outcome_shown_lem spec call l board KwArgsIsNotDict qs P N asked before ready = refused_is spec call l board qs P N asked before KwArgsIsNotDict refl ready
-outcome_shown_lem spec call l board ArgsValueIsNotString qs P N asked before ready = refused_is spec call l board qs P N asked before ArgsValueIsNotString refl ready
-outcome_shown_lem spec call l board (RepeatedArg name) qs P N asked before ready =
-    refused_is spec call l board qs P N asked before (RepeatedArg name) (ap (refusal_text 19) (part_is spec call rules.call_area name (told_inside spec call l board qs P N asked before (RepeatedArg name) ready))) ready
-outcome_shown_lem spec call l board (MissingPositionalOnly name) qs P N asked before ready =
-    refused_is spec call l board qs P N asked before (MissingPositionalOnly name) (ap (refusal_text 20) (part_is spec call rules.spec_area name (told_inside spec call l board qs P N asked before (MissingPositionalOnly name) ready))) ready
-outcome_shown_lem spec call l board (Missing name) qs P N asked before ready =
-    refused_is spec call l board qs P N asked before (Missing name) (ap (refusal_text 21) (part_is spec call rules.spec_area name (told_inside spec call l board qs P N asked before (Missing name) ready))) ready
-outcome_shown_lem spec call l board (MissingNamedOnly name) qs P N asked before ready =
-    refused_is spec call l board qs P N asked before (MissingNamedOnly name) (ap (refusal_text 22) (part_is spec call rules.spec_area name (told_inside spec call l board qs P N asked before (MissingNamedOnly name) ready))) ready
-outcome_shown_lem spec call l board (ExtraPositionalArg n) qs P N asked before ready = refused_is spec call l board qs P N asked before (ExtraPositionalArg n) refl ready
-outcome_shown_lem spec call l board (ExtraNamedArg n name) qs P N asked before ready =
-    refused_is spec call l board qs P N asked before (ExtraNamedArg n name) (ap (refusal_text 24) (part_is spec call rules.call_area name (told_inside spec call l board qs P N asked before (ExtraNamedArg n name) ready))) ready
+outcome_shown_lem spec call l board (Ok c) qs P N asked before ready = accepted_is spec call l board qs P N asked before c ready
+outcome_shown_lem spec call l board (Err (Record q)) qs P N asked before ready = refused_is spec call l board qs P N asked before (Err (Record q)) refl ready
+outcome_shown_lem spec call l board (Err ArgsArrayIsNotIterable) qs P N asked before ready = refused_is spec call l board qs P N asked before (Err ArgsArrayIsNotIterable) refl ready
+outcome_shown_lem spec call l board (Err (RepeatedParameter name)) qs P N asked before ready =
+    refused_is spec call l board qs P N asked before (Err (RepeatedParameter name)) (ap (refusal_text 16) (part_is spec call rules.spec_area name (told_inside spec call l board qs P N asked before (Err (RepeatedParameter name)) ready))) ready
+outcome_shown_lem spec call l board (Err KwArgsIsNotDict) qs P N asked before ready = refused_is spec call l board qs P N asked before (Err KwArgsIsNotDict) refl ready
+outcome_shown_lem spec call l board (Err ArgsValueIsNotString) qs P N asked before ready = refused_is spec call l board qs P N asked before (Err ArgsValueIsNotString) refl ready
+outcome_shown_lem spec call l board (Err (RepeatedArg name)) qs P N asked before ready =
+    refused_is spec call l board qs P N asked before (Err (RepeatedArg name)) (ap (refusal_text 19) (part_is spec call rules.call_area name (told_inside spec call l board qs P N asked before (Err (RepeatedArg name)) ready))) ready
+outcome_shown_lem spec call l board (Err (MissingPositionalOnly name)) qs P N asked before ready =
+    refused_is spec call l board qs P N asked before (Err (MissingPositionalOnly name)) (ap (refusal_text 20) (part_is spec call rules.spec_area name (told_inside spec call l board qs P N asked before (Err (MissingPositionalOnly name)) ready))) ready
+outcome_shown_lem spec call l board (Err (Missing name)) qs P N asked before ready =
+    refused_is spec call l board qs P N asked before (Err (Missing name)) (ap (refusal_text 21) (part_is spec call rules.spec_area name (told_inside spec call l board qs P N asked before (Err (Missing name)) ready))) ready
+outcome_shown_lem spec call l board (Err (MissingNamedOnly name)) qs P N asked before ready =
+    refused_is spec call l board qs P N asked before (Err (MissingNamedOnly name)) (ap (refusal_text 22) (part_is spec call rules.spec_area name (told_inside spec call l board qs P N asked before (Err (MissingNamedOnly name)) ready))) ready
+outcome_shown_lem spec call l board (Err (ExtraPositionalArg n)) qs P N asked before ready = refused_is spec call l board qs P N asked before (Err (ExtraPositionalArg n)) refl ready
+outcome_shown_lem spec call l board (Err (ExtraNamedArg n name)) qs P N asked before ready =
+    refused_is spec call l board qs P N asked before (Err (ExtraNamedArg n name)) (ap (refusal_text 24) (part_is spec call rules.call_area name (told_inside spec call l board qs P N asked before (Err (ExtraNamedArg n name)) ready))) ready

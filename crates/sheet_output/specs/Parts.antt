@@ -1,5 +1,5 @@
 -- The lines of an accepted call (01, sheets), off the list's columns and the board, one at each index.
-use Rattle.std.specs.Prelude.{Bool, true, false, List, [], ◌∷◌, ◌++◌, ℕ, zero, suc, ◌+◌, ◌*◌, ◌≤◌, get_or}
+use Rattle.std.specs.Prelude.{List, [], ◌∷◌, ◌++◌, ℕ, zero, suc, ◌+◌, ◌*◌, ◌≤◌, get_or}
 use Rattle.rules.specs.Value.{Value}
 use Rattle.rules.specs.SheetValue.{decimal}
 use Rattle.rules.specs.SheetOutput.{line}
@@ -7,6 +7,8 @@ use Rattle.cells.specs.Record.{pair_at}
 use Rattle.builder.specs.declared.params.Parameters.{Parameters}
 use Rattle.sheet_output.specs.Line.{shown_name, shown_value, name_for, shown_for}
 use Rattle.sheet_output.specs.declared.parts.Remainder.{Remainder}
+use Rattle.sheet_output.specs.declared.parts.Sort.{Sort}
+use Rattle.sheet_output.specs.declared.parts.Sort.TheVariants.{Star, Named}
 
 -- the lines at the indices below a number
 abbrev pub lines_to : (ℕ → List ℕ) → ℕ → List ℕ
@@ -35,27 +37,27 @@ unfoldable pub named_line_at : List ℕ → List ℕ → List ℕ → ℕ → �
 named_line_at spec call board from k = named_line spec call (pair_at board (from + 4 * k)) (pair_at board (from + 4 * k + 2))
 
 -- element k of a remainder of either sort
-abbrev pub element_line : Bool → List ℕ → List ℕ → List ℕ → ℕ → ℕ → List ℕ
-element_line true spec call board from k = named_line_at spec call board from k
-element_line false spec call board from k = star_line_at spec call board from k
+abbrev pub element_line : Sort → List ℕ → List ℕ → List ℕ → ℕ → ℕ → List ℕ
+element_line Star spec call board from k = star_line_at spec call board from k
+element_line Named spec call board from k = named_line_at spec call board from k
 
 -- the two sorts
 abbrev pub stars : ℕ → ℕ → Remainder
-stars from count = record { named = false; from = from; count = count }
+stars from count = record { sort = Star; from = from; count = count }
 
 abbrev pub names : ℕ → ℕ → Remainder
-names from count = record { named = true; from = from; count = count }
+names from count = record { sort = Named; from = from; count = count }
 
 abbrev pub remainder_text : List ℕ → List ℕ → List ℕ → Remainder → List ℕ
-remainder_text spec call board r = lines_to (element_line r.named spec call board r.from) r.count
+remainder_text spec call board r = lines_to (element_line r.sort spec call board r.from) r.count
 
 -- how many bytes an element's line has at the most, and a remainder's lines
-abbrev pub element_most : Bool → ℕ
-element_most true = 137
-element_most false = 72
+abbrev pub element_most : Sort → ℕ
+element_most Star = 72
+element_most Named = 137
 
 abbrev pub remainder_most : Remainder → ℕ
-remainder_most r = element_most r.named * r.count
+remainder_most r = element_most r.sort * r.count
 
 -- a remainder's cells are near: no index of them is past a number of the machine
 abbrev pub Near : Remainder → Type 0

@@ -6,8 +6,8 @@ ghost use Rattle.cells.specs.Out.{Put};
 ghost use Rattle.sheet_output.specs.Line.{shown_name, shown_value, plain_code, name_for, shown_for};
 
 use cells::out::write_bytes;
-use cells::text::{ReadText, part, read_text};
-use cells::value::{Pair, ReadValue, read_slot};
+use cells::text::{part, read_text};
+use cells::value::{Pair, read_slot};
 use sheet_values::print::{write_decimal, write_value};
 
 // Some bytes.
@@ -55,8 +55,8 @@ fn write_shown<'a>(
     ensures { Put (shown_value spec.now call.now (value kind payload)) at out.old out.new result }
 {
     match read_slot(spec, call, kind, payload) {
-        ReadValue::Is(v) => write_value(spec, call, v, at, out),
-        ReadValue::Not => at,
+        Some(v) => write_value(spec, call, v, at, out),
+        None => at,
     }
 }
 
@@ -65,8 +65,8 @@ pub(crate) fn name_in<'a>(area: &'a [u8], payload: u64) -> &'a [u8]
     ensures { result.now ≡ shown_name area.now payload }
 {
     match read_text(area, 0, payload) {
-        ReadText::Is(_) => part(area, payload),
-        ReadText::Not => &area[..0],
+        Some(_) => part(area, payload),
+        None => &area[..0],
     }
 }
 
@@ -103,11 +103,9 @@ pub(crate) fn held_cell<'a>(
 }
 
 // Is this the code of a parameter with a name of its own?
+#[tactic(auto, using(crate::proofs::LawsLine::plain_zero, crate::proofs::LawsLine::plain_three, crate::proofs::LawsLine::plain_past))]
 fn is_plain(code: u8) -> bool
     ensures { result ≡ plain_code code }
 {
-    if code < 1 {
-        return false;
-    }
-    code < 4
+    matches!(code, 1..=3)
 }

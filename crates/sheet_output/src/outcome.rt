@@ -8,11 +8,12 @@ ghost use Rattle.rules.specs.Collection.{outcome_of};
 ghost use Rattle.rules.specs.SheetValue.{decimal};
 ghost use Rattle.rules.specs.SheetOutput.{refusal_text, outcome_text};
 ghost use Rattle.cells.specs.Out.{Put};
-ghost use Rattle.sheet_output.specs.Outcome.{heading, count_line, closing, accepted_shown, number_of, refused_cells, refused_shown, outcome_shown, Limits, OutcomeRoom, OutcomeReady};
+ghost use Rattle.answers.specs.Answer.{refusal_number};
+ghost use Rattle.sheet_output.specs.Outcome.{heading, count_line, closing, accepted_shown, refused_cells, refused_shown, outcome_shown, Limits, OutcomeRoom, OutcomeReady};
 
 use crate::line::{number_cell, text_cell};
-use crate::parts::{Remainder, write_remainders, write_slots};
-use answers::answer::{Collected, Counts};
+use crate::parts::{Remainder, Sort, write_remainders, write_slots};
+use answers::answer::{Counts, Refusal};
 use answers::detail::name_of;
 use builder::spec::ParametersSpec;
 use cells::out::write_bytes;
@@ -20,68 +21,59 @@ use cells::out::write_bytes;
 // How a call ends, from byte 0 on, and how long that is. `list` is the one that the call was bound against, `board` and `answer` are what
 // collection left and answered.
 pub fn write_outcome<'a>(
-    list: ParametersSpec,
+    list: &ParametersSpec,
     spec: &'a [u8],
     call: &'a [u8],
     board: &'a [u64],
-    answer: Collected,
+    answer: Result<Counts, Refusal>,
     out: &mut [u8],
 ) -> usize
-    requires { OutcomeRoom list answer out.old }
-    ensures { (qs : List Parameter) (P : List Value) (N : List Named) (asked : Answer) (before : List ℕ) → OutcomeReady spec.now call.now list board.now answer qs P N asked before → Put (outcome_text spec.now call.now qs P N (outcome_of asked qs P N before)) 0 out.old out.new result }
+    requires { OutcomeRoom list.now answer out.old }
+    ensures { (qs : List Parameter) (P : List Value) (N : List Named) (asked : Answer) (before : List ℕ) → OutcomeReady spec.now call.now list.now board.now answer qs P N asked before → Put (outcome_text spec.now call.now qs P N (outcome_of asked qs P N before)) 0 out.old out.new result }
 {
     write_ending(list, spec, call, board, answer, out)
 }
 
 // The same, by the answer alone.
 fn write_ending<'a>(
-    list: ParametersSpec,
+    list: &ParametersSpec,
     spec: &'a [u8],
     call: &'a [u8],
     board: &'a [u64],
-    answer: Collected,
+    answer: Result<Counts, Refusal>,
     out: &mut [u8],
 ) -> usize
-    requires { OutcomeRoom list answer out.old }
-    ensures { Put (outcome_shown spec.now call.now list.params board.now answer) 0 out.old out.new result }
+    requires { OutcomeRoom list.now answer out.old }
+    ensures { Put (outcome_shown spec.now call.now list.now.params board.now answer) 0 out.old out.new result }
 {
     match answer {
-        Collected::Accepted(counts) => write_accepted(list, spec, call, board, counts, out),
-        Collected::ExtraPositionalArg(n) => write_refused_count(23, n as u64, out),
-        Collected::Record(_)
-        | Collected::ArgsArrayIsNotIterable
-        | Collected::RepeatedParameter(_)
-        | Collected::KwArgsIsNotDict
-        | Collected::ArgsValueIsNotString
-        | Collected::RepeatedArg(_)
-        | Collected::MissingPositionalOnly(_)
-        | Collected::Missing(_)
-        | Collected::MissingNamedOnly(_)
-        | Collected::ExtraNamedArg(_, _) => write_refused(spec, call, answer, out),
+        Ok(counts) => write_accepted(list, spec, call, board, counts, out),
+        Err(Refusal::ExtraPositionalArg(n)) => write_refused_count(23, n as u64, out),
+        Err(refusal) => write_refused(spec, call, refusal, out),
     }
 }
 
 // The columns, the slots, the star remainder before the named one, and the two counts.
 fn write_accepted<'a>(
-    list: ParametersSpec,
+    list: &ParametersSpec,
     spec: &'a [u8],
     call: &'a [u8],
     board: &'a [u64],
     counts: Counts,
     out: &mut [u8],
 ) -> usize
-    requires { Limits list.params counts × (40960 ≤ length out.old) }
-    ensures { Put (accepted_shown spec.now call.now list.params board.now counts) 0 out.old out.new result }
+    requires { Limits list.now.params counts × (40960 ≤ length out.old) }
+    ensures { Put (accepted_shown spec.now call.now list.now.params board.now counts) 0 out.old out.new result }
 {
-    let params = list.params;
+    let params = &list.params;
     let from = 2 * params.len;
     let star = Remainder {
-        named: false,
+        sort: Sort::Star,
         from,
         count: counts.star,
     };
     let named = Remainder {
-        named: true,
+        sort: Sort::Named,
         from: from + 2 * counts.star,
         count: counts.named,
     };
@@ -115,11 +107,11 @@ fn write_count(word: &[u8], n: usize, at: usize, out: &mut [u8]) -> usize
 }
 
 // A refusal with the name that goes with it, if one does.
-fn write_refused<'a>(spec: &'a [u8], call: &'a [u8], answer: Collected, out: &mut [u8]) -> usize
+fn write_refused<'a>(spec: &'a [u8], call: &'a [u8], refusal: Refusal, out: &mut [u8]) -> usize
     requires { 512 ≤ length out.old }
-    ensures { Put (refused_shown spec.now call.now answer) 0 out.old out.new result }
+    ensures { Put (refused_shown spec.now call.now refusal) 0 out.old out.new result }
 {
-    write_refusal(number_of(answer), name_of(spec, call, answer), out)
+    write_refusal(number_of(refusal), name_of(spec, call, Err(refusal)), out)
 }
 
 // `refused`, the number and the detail's bytes.
@@ -149,21 +141,20 @@ fn write_number(number: u64, out: &mut [u8]) -> usize
     number_cell(number, b",", second, out)
 }
 
-fn number_of(answer: Collected) -> u64
-    ensures { result ≡ number_of answer }
+fn number_of(refusal: Refusal) -> u64
+    ensures { result ≡ refusal_number refusal }
 {
-    match answer {
-        Collected::Accepted(_) => 0,
-        Collected::Record(n) => n,
-        Collected::ArgsArrayIsNotIterable => 15,
-        Collected::RepeatedParameter(_) => 16,
-        Collected::KwArgsIsNotDict => 17,
-        Collected::ArgsValueIsNotString => 18,
-        Collected::RepeatedArg(_) => 19,
-        Collected::MissingPositionalOnly(_) => 20,
-        Collected::Missing(_) => 21,
-        Collected::MissingNamedOnly(_) => 22,
-        Collected::ExtraPositionalArg(_) => 23,
-        Collected::ExtraNamedArg(_, _) => 24,
+    match refusal {
+        Refusal::Record(question) => question.number(),
+        Refusal::ArgsArrayIsNotIterable => 15,
+        Refusal::RepeatedParameter(_) => 16,
+        Refusal::KwArgsIsNotDict => 17,
+        Refusal::ArgsValueIsNotString => 18,
+        Refusal::RepeatedArg(_) => 19,
+        Refusal::MissingPositionalOnly(_) => 20,
+        Refusal::Missing(_) => 21,
+        Refusal::MissingNamedOnly(_) => 22,
+        Refusal::ExtraPositionalArg(_) => 23,
+        Refusal::ExtraNamedArg(_, _) => 24,
     }
 }

@@ -10,11 +10,17 @@ use cells::out::write_bytes;
 use cells::record::pair_at;
 use cells::value::Pair;
 
-// A remainder on the board: the cell where it begins and how many elements it has, which are values of two cells or, if `named`, names with
-// values, of four.
-#[derive(Drop)]
+// Which remainder: values, of two cells each, or names with values, of four.
+#[derive(Clone, Copy, Debug, PartialEq, Eq)]
+pub enum Sort {
+    Star,
+    Named,
+}
+
+// A remainder on the board: which it is, the cell where it begins, and how many elements it has.
+#[derive(Clone, Copy, Debug, PartialEq, Eq)]
 pub struct Remainder {
-    pub named: bool,
+    pub sort: Sort,
     pub from: usize,
     pub count: usize,
 }
@@ -23,17 +29,16 @@ pub struct Remainder {
 pub(crate) fn write_slots<'a>(
     spec: &'a [u8],
     call: &'a [u8],
-    params: Parameters,
+    params: &Parameters,
     board: &'a [u64],
     at: usize,
     out: &mut [u8],
 ) -> usize
-    requires { (params.len ≤ 64) × (at + 152 * params.len + 512 ≤ length out.old) }
-    ensures { Put (lines_to (slot_line_at spec.now call.now params board.now) params.len) at out.old out.new result }
+    requires { (params.now.len ≤ 64) × (at + 152 * params.now.len + 512 ≤ length out.old) }
+    ensures { Put (lines_to (slot_line_at spec.now call.now params.now board.now) params.now.len) at out.old out.new result }
 {
     let mut end = at;
-    let mut i = 0;
-    while i < params.len {
+    for i in 0..params.len {
         end = write_slot(
             spec,
             call,
@@ -44,7 +49,6 @@ pub(crate) fn write_slots<'a>(
             end,
             out,
         );
-        i += 1;
     }
     end
 }
@@ -99,17 +103,15 @@ fn write_remainder<'a>(
     ensures { Put (remainder_text spec.now call.now board.now rest) at out.old out.new result }
 {
     let mut end = at;
-    let mut k = 0;
-    while k < rest.count {
-        end = write_element(rest.named, spec, call, board, rest.from, k, end, out);
-        k += 1;
+    for k in 0..rest.count {
+        end = write_element(rest.sort, spec, call, board, rest.from, k, end, out);
     }
     end
 }
 
 // Element k of a remainder whose cells begin at `from`.
 fn write_element<'a>(
-    named: bool,
+    sort: Sort,
     spec: &'a [u8],
     call: &'a [u8],
     board: &'a [u64],
@@ -119,20 +121,22 @@ fn write_element<'a>(
     out: &mut [u8],
 ) -> usize
     requires { (from ≤ 1024) × (k ≤ 128) × (at + 512 ≤ length out.old) }
-    ensures { Put (element_line named spec.now call.now board.now from k) at out.old out.new result }
+    ensures { Put (element_line sort spec.now call.now board.now from k) at out.old out.new result }
 {
-    if named {
-        let key = from + 4 * k;
-        return write_name(
-            spec,
-            call,
-            pair_at(board, key),
-            pair_at(board, key + 2),
-            at,
-            out,
-        );
+    match sort {
+        Sort::Star => write_star(spec, call, pair_at(board, from + 2 * k), at, out),
+        Sort::Named => {
+            let key = from + 4 * k;
+            write_name(
+                spec,
+                call,
+                pair_at(board, key),
+                pair_at(board, key + 2),
+                at,
+                out,
+            )
+        }
     }
-    write_star(spec, call, pair_at(board, from + 2 * k), at, out)
 }
 
 // `star`, nothing and the value.

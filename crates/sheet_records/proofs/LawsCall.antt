@@ -4,10 +4,10 @@
 use mathlib.Core.Path.{◌≡◌, refl, sym, ap, ap₂, ◌∙◌}
 use mathlib.Core.Bool.{Bool, true, false, cond}
 use mathlib.Core.List.{List, [], ◌∷◌, ◌++◌, map, append-nil}
-use Prim.Native.Nat.{ℕ, suc, ◌+◌, ◌-◌, ◌*◌, ◌≤◌, ◌<◌}
+use Prim.Native.Nat.{ℕ, zero, suc, ◌+◌, ◌-◌, ◌*◌, ◌≤◌, ◌<◌}
 use native.Mathlib.Numerals.{add-one}
 use native.Mathlib.Omega.{arith}
-use lib.ListN.{length, length-append}
+use lib.ListN.{length, get_or, length-append}
 use Rattle.rules.specs.Cells.{write_each}
 use Rattle.rules.specs.Listing.{tally}
 use Rattle.rules.specs.Value.{Value, value_width, value_cells, read_value}
@@ -20,6 +20,9 @@ use Rattle.rules.proofs.LawsSheetForm.{part_many}
 use Rattle.cells.specs.Out.{stored}
 use Rattle.cells.specs.Value.{value}
 use Rattle.cells.proofs.LawsOut.{stored_stored}
+use Rattle.sheet_lines.specs.Word.{call_part_of}
+use Rattle.sheet_lines.specs.declared.word.CallPart as code
+use Rattle.sheet_lines.specs.declared.word.CallPart.TheVariants.{Positional, Named, Item, Entry}
 use Rattle.sheet_records.specs.Text.{name_text, row_texts}
 use Rattle.sheet_records.specs.Run.{text_kind, key_cells, last_value, row_cells, run_from}
 use Rattle.sheet_records.specs.Call.{part_at, parts_from, head_cells, CountsOf}
@@ -83,6 +86,16 @@ module _ {X : Type 0} (part : CallPart) (f : Placed → X) (write : X → List �
           ≡ cond b (key_cells true part at r ++ value_cells (last_value true at r)) [] ++ run_from true part (at + length (row_texts true r)) rows
       go true e = ap₂ (λ a b. a ++ b) (sym (same at r)) e
       go false e = e
+
+-- the parts as the code lists them
+abbrev pub parts : List code.CallPart
+parts = Positional ∷ Named ∷ Item ∷ Entry ∷ []
+
+pub part_listed : (n : ℕ) → n < 4 → call_part_of (get_or parts n Positional) ≡ part_at n
+part_listed zero h = refl
+part_listed (suc zero) h = refl
+part_listed (suc (suc zero)) h = refl
+part_listed (suc (suc (suc n))) h = let last : n ≡ 0 = omega arith in rw last
 
 -- one part more
 pub parts_next : (rows : List Row) (n : ℕ) → n < 4 → (part : CallPart) → part ≡ part_at n → parts_from rows n (4 - n) ≡ run_from true part 0 rows ++ parts_from rows (n + 1) (4 - (n + 1))

@@ -4,7 +4,7 @@
 use mathlib.Core.Path.{◌≡◌, sym, ap, subst, ◌∙◌}
 use mathlib.Core.Bool.{Bool}
 use mathlib.Core.List.{List, [], ◌∷◌, ◌++◌}
-use Prim.Native.Nat.{ℕ, suc, ◌+◌, ◌-◌, ◌≤◌, ◌<◌}
+use Prim.Native.Nat.{ℕ, suc, ◌+◌, ◌≤◌}
 use native.Mathlib.Omega.{arith}
 use lib.ListN.{length}
 use Rattle.rules.specs.SheetLines.{Columns, Row}
@@ -29,33 +29,30 @@ going_start run input c at left text first out ahead h room =
 
 module _ {run : ℕ → List Row → List ℕ} {input : List ℕ} {c : Columns} {all : List ℕ} {first : ℕ} {out₀ : List ℕ} {at left text next : ℕ} {out : List ℕ} (g : Going run input c all first out₀ at left text next out) where
   -- the next row was read
-  module _ (keyed : Bool) (cells : ℕ → Row → List ℕ) (step : (t : ℕ) (r : Row) (rows : List Row) → run t (r ∷ rows) ≡ cells t r ++ run (t + length (row_texts keyed r)) rows) (r : RowAt) (more : 0 < left) (read : LineRead input c at r) where
-    some_left : left ≡ suc (left - 1)
-    some_left = omega arith
-
-    parted : run text (rows_from input c at left) ≡ cells text (row_of input r.row) ++ run (text + length (row_texts keyed (row_of input r.row))) (rows_from input c (r.end + 1) (left - 1))
+  module _ (keyed : Bool) (cells : ℕ → Row → List ℕ) (step : (t : ℕ) (r : Row) (rows : List Row) → run t (r ∷ rows) ≡ cells t r ++ run (t + length (row_texts keyed r)) rows) (r : RowAt) (m : ℕ) (some_left : left ≡ suc m) (read : LineRead input c at r) where
+    parted : run text (rows_from input c at left) ≡ cells text (row_of r.row) ++ run (text + length (row_texts keyed (row_of r.row))) (rows_from input c (r.end + 1) m)
     parted =
-        ap (run text) (rows_next input c at left (left - 1) r some_left g.ahead read)
-        ∙ step text (row_of input r.row) (rows_from input c (r.end + 1) (left - 1))
+        ap (run text) (rows_next input c at left m r some_left g.ahead read)
+        ∙ step text (row_of r.row) (rows_from input c (r.end + 1) m)
 
-    pub going_room : next + length (cells text (row_of input r.row)) ≤ length out
+    pub going_room : next + length (cells text (row_of r.row)) ≤ length out
     going_room =
-        left_room (cells text (row_of input r.row)) (run (text + length (row_texts keyed (row_of input r.row))) (rows_from input c (r.end + 1) (left - 1)))
+        left_room (cells text (row_of r.row)) (run (text + length (row_texts keyed (row_of r.row))) (rows_from input c (r.end + 1) m))
         (run text (rows_from input c at left)) parted g.rest
 
     -- its texts end before the row behind it
-    pub going_text : text + length (row_texts keyed (row_of input r.row)) ≤ r.end + 1
-    going_text = text_next input c at left (left - 1) r some_left g.ahead read keyed text g.before
+    pub going_text : text + length (row_texts keyed (row_of r.row)) ≤ r.end + 1
+    going_text = text_next input c at left m r some_left g.ahead read keyed text g.before
 
-    pub going_next : (texts : ℕ) → texts ≡ text + length (row_texts keyed (row_of input r.row)) → (held : List ℕ) (after : ℕ) → Put (cells text (row_of input r.row)) next out held after
-        → Going run input c all first out₀ (r.end + 1) (left - 1) texts after held
+    pub going_next : (texts : ℕ) → texts ≡ text + length (row_texts keyed (row_of r.row)) → (held : List ℕ) (after : ℕ) → Put (cells text (row_of r.row)) next out held after
+        → Going run input c all first out₀ (r.end + 1) m texts after held
     going_next texts e held after p =
-        subst (λ t. Going run input c all first out₀ (r.end + 1) (left - 1) t after held) (sym e)
+        subst (λ t. Going run input c all first out₀ (r.end + 1) m t after held) (sym e)
         (record {
-          ahead = ahead_next input c at left (left - 1) r some_left g.ahead read;
+          ahead = ahead_next input c at left m r some_left g.ahead read;
           before = going_text;
           rest =
-              left_next (cells text (row_of input r.row)) (run (text + length (row_texts keyed (row_of input r.row))) (rows_from input c (r.end + 1) (left - 1)))
+              left_next (cells text (row_of r.row)) (run (text + length (row_texts keyed (row_of r.row))) (rows_from input c (r.end + 1) m))
               (run text (rows_from input c at left)) parted g.rest held after p;
         })
 

@@ -7,17 +7,21 @@ use mathlib.Core.List.{List, [], ◌∷◌, map}
 use Prim.Native.Nat.{ℕ, zero, suc, ◌+◌, ◌≤◌, ◌<◌}
 use native.Mathlib.Numerals.{add-one}
 use native.Mathlib.Omega.{arith}
-use lib.Dec.{ltb}
+use lib.Dec.{eqb}
 use lib.ListN.{length, take, drop, length-map}
 use lib.Seq.{length-take-le, take-length}
-use borrow.Author.Tests.{ltb-true, ltb-false, lt-ltb, le-ltb}
 use Rattle.rules.specs.Listing.{all}
-use Rattle.rules.specs.SheetLines.{lines_in, cells_in, three_cells, Columns, row_in}
+use Rattle.std.specs.List.{count_by}
+use Rattle.std.proofs.lemmas.List.Recursion.{is_count_by}
+use Rattle.rules.specs.SheetLines.{before, split, front, lines_in, cells_in, three_cells, Columns, row_in}
 use Rattle.rules.proofs.LawsListing.{and_left, and_right, and_both}
-use Rattle.sheet_lines.specs.Piece.{piece, PieceEnd}
+use Rattle.std.specs.Prelude.{Option, Some, None, IsSome}
+use borrow.Author.Rules.{rules}
+use Rattle.sheet_lines.specs.Piece.{piece, PieceEnd, MarkFound}
 use Rattle.sheet_lines.proofs.LawsPiece.{piece_length}
 use Rattle.sheet_lines.specs.Row.{row_of, RowIs}
-use Rattle.sheet_lines.specs.declared.row.RowRead.{RowRead}
+use Rattle.sheet_lines.specs.declared.row.Row as code
+use Rattle.sheet_lines.proofs.LawsCells.{split_some}
 use Rattle.sheet_lines.proofs.LawsLines.{lines_next, lines_end}
 use Rattle.sheet_lines.proofs.LawsRow.{name_short, value_short}
 use Rattle.sheet_records.specs.Rows.{rows_from, all_rows, RowsAhead, LineRead}
@@ -39,43 +43,40 @@ ahead_first input c at (suc n) h ahead =
     first [] e = refl
     first (x ∷ xs) e = and_both (right x) true (and_left (right x) (all right (take n xs)) e) refl
 
--- a line that is there is read
-module _ (input : List ℕ) (c : Columns) (at end : ℕ) (r : RowRead) (ahead : RowsAhead input c at 1) (found : PieceEnd 10 input at (length input) end) (is : RowIs c input at end r) where
-  ended : end < length input
-  ended = go (ltb end (length input)) refl
-    where
-      go : (b : Bool) → ltb end (length input) ≡ b → end < length input
-      go true e = ltb-true end (length input) e
-      go false e =
-          let past : length input ≤ end = ltb-false end (length input) e in
-          let whole : end ≡ length input = omega (arith, found.within) in
-          absurd (omega (arith, ahead.enough, ap length (lines_end found whole)))
+-- a line that is there is found and read
+module _ (input : List ℕ) (c : Columns) (at : ℕ) (ahead : RowsAhead input c at 1) where
+  pub line_some : (found : Option ℕ) → MarkFound 10 input at found → IsSome found
+  line_some (Some end) e = search rules
+  line_some None e = absurd (omega (arith, ahead.enough, ap length (lines_end e refl)))
 
-  line_right : right (piece input at end) ≡ true
-  line_right = and_left (right (piece input at end)) true (sym (ap (λ l. all right (take 1 l)) (lines_next found ended)) ∙ ahead.cells)
+  module _ {end : ℕ} (found : PieceEnd 10 input at (length input) end) (ended : end < length input) where
+    line_right : right (piece input at end) ≡ true
+    line_right = and_left (right (piece input at end)) true (sym (ap (λ l. all right (take 1 l)) (lines_next found ended)) ∙ ahead.cells)
 
-  pub line_read : LineRead input c at (record { row = r.row; end = end })
-  line_read =
-      let told : r.right ≡ true = is.told ∙ line_right in
-      record {
-        after = found.after;
-        within = ended;
-        lines = lines_next found ended;
-        row = is.row told;
-        held =
-            record {
-              inside = is.inside told;
-              name_short = subst (λ x. length x.name ≤ 255) (sym (is.row told)) (name_short c (piece input at end) line_right);
-              value_short = subst (λ x. length x.value ≤ 255) (sym (is.row told)) (value_short c (piece input at end) line_right);
-            };
-      }
+    pub row_some : (row : Option code.Row) → RowIs c (piece input at end) row → IsSome row
+    row_some (Some row) e = search rules
+    row_some None e = let no : false ≡ true = sym e ∙ line_right in cc
+
+    pub line_read : (row : code.Row) → RowIs c (piece input at end) (Some row) → LineRead input c at (record { row = row; end = end })
+    line_read row is =
+        record {
+          after = found.after;
+          within = ended;
+          lines = lines_next found ended;
+          row = is.1;
+          held =
+              record {
+                name_short = subst (λ x. length x.name ≤ 255) (sym is.1) (name_short c (piece input at end) line_right);
+                value_short = subst (λ x. length x.value ≤ 255) (sym is.1) (value_short c (piece input at end) line_right);
+              };
+        }
 
 -- the next of `n` lines was read
 module _ (input : List ℕ) (c : Columns) (at n m : ℕ) (r : RowAt) (e : n ≡ suc m) (ahead : RowsAhead input c at n) (read : LineRead input c at r) where
   behind : lines_in (drop at input) ≡ piece input at r.end ∷ lines_in (drop (r.end + 1) input)
   behind = read.lines ∙ ap (λ k. piece input at r.end ∷ lines_in (drop k input)) (sym (add-one r.end))
 
-  pub rows_next : rows_from input c at n ≡ row_of input r.row ∷ rows_from input c (r.end + 1) m
+  pub rows_next : rows_from input c at n ≡ row_of r.row ∷ rows_from input c (r.end + 1) m
   unfolding rows_from
   rows_next =
       ap (λ k. map (row_in c) (take k (lines_in (drop at input)))) e
@@ -95,9 +96,9 @@ module _ (input : List ℕ) (c : Columns) (at n m : ℕ) (r : RowAt) (e : n ≡ 
       }
 
   -- texts that end before the line still do behind it
-  pub text_next : (keyed : Bool) (text : ℕ) → text ≤ at → text + length (row_texts keyed (row_of input r.row)) ≤ r.end + 1
+  pub text_next : (keyed : Bool) (text : ℕ) → text ≤ at → text + length (row_texts keyed (row_of r.row)) ≤ r.end + 1
   text_next keyed text h =
-      let fits : length (row_texts keyed (row_of input r.row)) ≤ suc (length (piece input at r.end)) =
+      let fits : length (row_texts keyed (row_of r.row)) ≤ suc (length (piece input at r.end)) =
       subst (λ x. length (row_texts keyed x) ≤ suc (length (piece input at r.end))) (sym read.row)
       (texts_fit keyed c (piece input at r.end) ahead.apart) in
       omega (arith, piece_length input at r.end read.after (omega (arith, read.within)), read.after)
@@ -120,27 +121,22 @@ rows_all input c from n e = rw (e, take-length (lines_in (drop from input)))
 
 -- ---- lines counted
 
--- how many lines there are from a line on that ends at `end`
-unfoldable pub lines_from : List ℕ → ℕ → ℕ
-lines_from input end = cond (ltb end (length input)) (suc (length (lines_in (drop (suc end) input)))) 0
-
--- a line is there
-pub lines_some : (input : List ℕ) (end : ℕ) → end < length input → lines_from input end ≡ suc (length (lines_in (drop (end + 1) input)))
-unfolding lines_from
-lines_some input end h = rw (lt-ltb end (length input) h, add-one end)
-
-pub lines_none : (input : List ℕ) (end : ℕ) → length input ≤ end → lines_from input end ≡ 0
-unfolding lines_from
-lines_none input end h = rw (le-ltb end (length input) h)
-
-pub lines_found : (input : List ℕ) (at end : ℕ) → PieceEnd 10 input at (length input) end → length (lines_in (drop at input)) ≡ lines_from input end
-lines_found input at end found = go (ltb end (length input)) refl
+-- a byte in front is a line more where it ends one
+lines_more : (b : ℕ) (bs : List ℕ) → length (lines_in (b ∷ bs)) ≡ cond (eqb b 10) (1 + length (lines_in bs)) (length (lines_in bs))
+unfolding lines_in
+lines_more b bs = go (eqb b 10) (split 10 bs) (split_some 10 bs)
   where
-    go : (b : Bool) → ltb end (length input) ≡ b → length (lines_in (drop at input)) ≡ lines_from input end
-    go true e =
-        let h : end < length input = ltb-true end (length input) e in
-        ap length (lines_next found h) ∙ ap (λ k. suc (length (lines_in (drop k input)))) (sym (add-one end)) ∙ sym (lines_some input end h)
-    go false e =
-        let h : length input ≤ end = ltb-false end (length input) e in
-        let whole : end ≡ length input = omega (arith, found.within) in
-        ap length (lines_end found whole) ∙ sym (lines_none input end h)
+    go : (c : Bool) (pieces : List (List ℕ)) → 1 ≤ length pieces
+        → length (front (cond c ([] ∷ pieces) (before b pieces))) ≡ cond c (1 + length (front pieces)) (length (front pieces))
+    go c [] h = absurd (omega arith)
+    go true (p ∷ ps) h = omega arith
+    go false (p ∷ []) h = refl
+    go false (p ∷ q ∷ qs) h = refl
+
+lines_empty : length (lines_in []) ≡ 0
+unfolding lines_in
+lines_empty = refl
+
+-- there are as many as bytes 10
+pub lines_counted : (bytes : List ℕ) → length (lines_in bytes) ≡ count_by (λ b. eqb b 10) bytes
+lines_counted = is_count_by (λ bytes. length (lines_in bytes)) (λ b. eqb b 10) lines_empty lines_more

@@ -65,20 +65,20 @@ module _ {input : List ℕ} {c : Columns} {from rows : ℕ} {cells area : List �
   pub ahead_steps : RowsAhead input c (r.end + 1) (rows - 1)
   ahead_steps = ahead_next input c from rows (rows - 1) r some_rows ready.ahead read
 
-  pub text_steps : (text : ℕ) → text ≡ length (row_texts false (row_of input r.row)) → text ≤ r.end + 1
+  pub text_steps : (text : ℕ) → text ≡ length (row_texts false (row_of r.row)) → text ≤ r.end + 1
   text_steps text e = omega (arith, text_next input c from rows (rows - 1) r some_rows ready.ahead read false 0 (omega arith))
 
   parameter_runs : encode_parameters (parameter_record (rows_from input c from rows))
-      ≡ (payload_of 0 (length (row_of input r.row).name) ∷ []) ++ run_from false unknown_part (length (row_texts false (row_of input r.row))) (rows_from input c (r.end + 1) (rows - 1))
+      ≡ (payload_of 0 (length (row_of r.row).name) ∷ []) ++ run_from false unknown_part (length (row_texts false (row_of r.row))) (rows_from input c (r.end + 1) (rows - 1))
   parameter_runs =
-      parameter_cells unknown_part (rows_from input c from rows) (rows_from input c (r.end + 1) (rows - 1)) (row_of input r.row) (rows_next input c from rows (rows - 1) r some_rows ready.ahead read)
+      parameter_cells unknown_part (rows_from input c from rows) (rows_from input c (r.end + 1) (rows - 1)) (row_of r.row) (rows_next input c from rows (rows - 1) r some_rows ready.ahead read)
 
   parameter_room : length (encode_parameters (parameter_record (rows_from input c from rows))) ≤ length cells
   parameter_room =
       omega
-      (arith, ap length parameter_runs, steps_length unknown_part (length (row_texts false (row_of input r.row))) (rows_from input c (r.end + 1) (rows - 1)), rows_length input c (r.end + 1) (rows - 1) ahead_steps, ready.few_rows, ready.cells_room)
+      (arith, ap length parameter_runs, steps_length unknown_part (length (row_texts false (row_of r.row))) (rows_from input c (r.end + 1) (rows - 1)), rows_length input c (r.end + 1) (rows - 1) ahead_steps, ready.few_rows, ready.cells_room)
 
-  module _ (text payload : ℕ) (is_text : text ≡ length (row_texts false (row_of input r.row))) (is-payload : payload ≡ payload_of 0 (length (row_of input r.row).name)) where
+  module _ (text payload : ℕ) (is_text : text ≡ length (row_texts false (row_of r.row))) (is-payload : payload ≡ payload_of 0 (length (row_of r.row).name)) where
     steps_left : Left (encode_parameters (parameter_record (rows_from input c from rows))) 0 cells (run_from false unknown_part text (rows_from input c (r.end + 1) (rows - 1))) 1 (set cells 0 payload)
     steps_left =
         left_next (payload ∷ []) (run_from false unknown_part text (rows_from input c (r.end + 1) (rows - 1))) (encode_parameters (parameter_record (rows_from input c from rows)))

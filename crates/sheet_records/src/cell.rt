@@ -21,9 +21,8 @@ pub(crate) fn text_of<'a>(cell: &'a [u8]) -> &'a [u8]
     ensures { result.now ≡ text_of (read_cell cell.now) }
 {
     match read_cell(cell) {
-        Cell::Is(_) => &cell[..0],
-        Cell::Text => &cell[1..],
-        Cell::Not => &cell[..0],
+        Some(Cell::Text) => &cell[1..],
+        _ => &[],
     }
 }
 
@@ -33,9 +32,9 @@ pub(crate) fn value_at(kind: u64, cell: &[u8], start: usize) -> Pair
     ensures { pair_of result ≡ value_at kind start (read_cell cell.now) }
 {
     match read_cell(cell) {
-        Cell::Is(v) => v.cells(),
-        Cell::Text => Pair::new(kind, payload_of(start, cell.len() - 1)),
-        Cell::Not => Pair::new(0, 0),
+        Some(Cell::Value(v)) => v.cells(),
+        Some(Cell::Text) => Pair::new(kind, payload_of(start, cell.len() - 1)),
+        None => Pair::new(0, 0),
     }
 }
 
@@ -55,8 +54,5 @@ pub(crate) fn payload_of(start: usize, size: usize) -> u64
 pub(crate) fn text_kind(keyed: bool) -> u64
     ensures { result ≡ text_kind keyed }
 {
-    if keyed {
-        return CALL_TEXT;
-    }
-    SPEC_TEXT
+    if keyed { CALL_TEXT } else { SPEC_TEXT }
 }

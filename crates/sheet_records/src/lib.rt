@@ -5,13 +5,12 @@
 ghost use Rattle.std.specs.Prelude.{◌≡◌, ◌+◌, ◌≤◌, length};
 ghost use Rattle.cells.specs.Out.{stored, Put};
 ghost use Rattle.sheet_lines.specs.Header.{columns_of};
-ghost use Rattle.sheet_lines.specs.Word.{call_part_of};
 ghost use Rattle.sheet_records.specs.Rows.{rows_from, all_rows, RowsAhead};
-ghost use Rattle.sheet_records.specs.Call.{head_cells, part_at, parts_from};
+ghost use Rattle.sheet_records.specs.Call.{head_cells, parts_from};
 ghost use Rattle.sheet_records.specs.Written.{ParametersReady, ParametersWritten, CallReady, CallWritten};
 
 use crate::cell::payload_of;
-use crate::row::{count_lines, name_of, row_at};
+use crate::row::{count_lines, row_at};
 use crate::rows::write_rows;
 use crate::texts::{texts_len, write_texts};
 use cells::out::put;
@@ -25,13 +24,18 @@ pub mod row;
 pub mod rows;
 pub mod texts;
 
-// The cells of a call record before its parts, and the parts.
+// The cells of a call record before its parts, and the parts in their order.
 const HEAD: usize = 6;
 
-const PARTS: usize = 4;
+const PARTS: [CallPart; 4] = [
+    CallPart::Positional,
+    CallPart::Named,
+    CallPart::Item,
+    CallPart::Entry,
+];
 
 // How many cells and how many bytes a record takes.
-#[derive(Drop)]
+#[derive(Clone, Copy, Debug, PartialEq, Eq)]
 pub struct Written {
     pub cells: usize,
     pub bytes: usize,
@@ -51,17 +55,13 @@ pub fn write_parameters(
 {
     let first = row_at(input, columns, from);
     let row = first.row;
-    let end = first.end;
-    let name = name_of(input, row);
-    cells[0] = payload_of(0, name.len());
-    let text = texts_len(false, input, row);
-    // No row of a parameter sheet is a part of a call: which part is named here is never asked.
+    cells[0] = payload_of(0, row.name.len());
+    let text = texts_len(false, row);
     let written = write_rows(
-        false,
-        CallPart::Unknown,
+        None,
         input,
         columns,
-        end + 1,
+        first.end + 1,
         rows - 1,
         text,
         cells,
@@ -112,32 +112,8 @@ fn write_parts(input: &[u8], columns: Columns, from: usize, rows: usize, cells: 
     ensures { Put (parts_from (rows_from input.now (columns_of columns) from rows) 0 4) 6 cells.old cells.new result }
 {
     let mut next = HEAD;
-    let mut part = 0;
-    while part < PARTS {
-        next = write_rows(
-            true,
-            part_at(part),
-            input,
-            columns,
-            from,
-            rows,
-            0,
-            cells,
-            next,
-        );
-        part += 1;
+    for part in PARTS {
+        next = write_rows(Some(part), input, columns, from, rows, 0, cells, next);
     }
     next
-}
-
-// The parts of a call record by number.
-fn part_at(part: usize) -> CallPart
-    ensures { call_part_of result ≡ part_at part }
-{
-    match part {
-        0 => CallPart::Positional,
-        1 => CallPart::Named,
-        2 => CallPart::Item,
-        _ => CallPart::Entry,
-    }
 }

@@ -4,6 +4,7 @@ use mathlib.Core.Path.{◌≡◌, refl, sym, ap, ◌∙◌}
 use mathlib.Core.Bool.{Bool, true, false, cond, ◌&&◌}
 use mathlib.Core.List.{List, [], ◌∷◌}
 use mathlib.Core.Option.{none, some}
+use Rattle.std.specs.Prelude.{Some}
 use Prim.Native.Nat.{ℕ, ◌-◌, ◌<◌, ◌^◌}
 use native.Mathlib.Omega.{arith}
 use lib.Dec.{ltb}
@@ -12,13 +13,8 @@ use lib.Seq.{take_all}
 use borrow.Author.Tests.{ltb-true, lt-ltb, ne_eqb}
 use Rattle.rules.specs.Value.{well_formed, well_formed_argument, call_text}
 use Rattle.rules.specs.SheetValue.{number_from, is_shortest, read_decimal, read_form, read_cell}
-use Rattle.cells.specs.declared.value.Value.{Value}
-use Rattle.cells.specs.declared.value.ReadValue.TheVariants as read
 use Rattle.cells.specs.Value.{value, pair_of, cells_of, value_of, value_as, read_argument}
 use Rattle.cells.proofs.LawsValue.{argument_cells}
-use Rattle.sheet_values.specs.declared.read.Number.{Number}
-use Rattle.sheet_values.specs.declared.read.Number.TheVariants as number
-use Rattle.sheet_values.specs.Read.{number_of, fitting}
 
 pub cell_form : (bs : List ℕ) → (length bs ≡ 0 → ⊥) → read_cell bs ≡ read_form (get_or bs 0 0) (drop 1 bs)
 cell_form [] h = absurd (h refl)
@@ -55,42 +51,34 @@ decimal_limit limit n bs e = go (is_shortest bs) (ltb (number_from 10 0 bs) limi
     go true false l q = let z : ◌≡◌ {A = ℕ} 0 1 = cc in absurd (omega arith)
     go false t l q = let z : ◌≡◌ {A = ℕ} 0 1 = cc in absurd (omega arith)
 
-fitting_below : (kind limit : ℕ) → ((n : ℕ) → n < limit → well_formed_argument [] (value kind n) ≡ true)
-    → (r : Number) (bs : List ℕ) → number_of r ≡ read_decimal limit bs → fitting kind r ≡ true
-fitting_below kind limit well (number.Is n) bs e = well n (decimal_limit limit n bs e)
-fitting_below kind limit well number.Not bs e = refl
+well_below : (kind limit : ℕ) → ((n : ℕ) → n < limit → well_formed_argument [] (value kind n) ≡ true)
+    → (n : ℕ) (bs : List ℕ) → some n ≡ read_decimal limit bs → well_formed_argument [] (value kind n) ≡ true
+well_below kind limit well n bs e = well n (decimal_limit limit n bs e)
 
-pub fitting_flag : (r : Number) (bs : List ℕ) → number_of r ≡ read_decimal 2 bs → fitting 2 r ≡ true
+pub well_flag : (n : ℕ) (bs : List ℕ) → some n ≡ read_decimal 2 bs → well_formed_argument [] (value 2 n) ≡ true
 unfolding well_formed_argument well_formed call_text
-fitting_flag = fitting_below 2 2 (λ n h. rw (lt-ltb n 2 h))
+well_flag = well_below 2 2 (λ n h. rw (lt-ltb n 2 h))
 
-pub fitting_handle : (r : Number) (bs : List ℕ) → number_of r ≡ read_decimal (2 ^ 32) bs → fitting 7 r ≡ true
+pub well_handle : (n : ℕ) (bs : List ℕ) → some n ≡ read_decimal (2 ^ 32) bs → well_formed_argument [] (value 7 n) ≡ true
 unfolding well_formed_argument well_formed call_text
-fitting_handle = fitting_below 7 (2 ^ 32) (λ n h. rw (lt-ltb n (2 ^ 32) h))
+well_handle = well_below 7 (2 ^ 32) (λ n h. rw (lt-ltb n (2 ^ 32) h))
 
 -- any payload is a whole number's, and a real's
-pub fitting_whole : (r : Number) → fitting 3 r ≡ true
+pub well_whole : (n : ℕ) → well_formed_argument [] (value 3 n) ≡ true
 unfolding well_formed_argument well_formed call_text
-fitting_whole (number.Is n) = refl
-fitting_whole number.Not = refl
+well_whole n = refl
 
-pub fitting_real : (r : Number) → fitting 4 r ≡ true
+pub well_real : (n : ℕ) → well_formed_argument [] (value 4 n) ≡ true
 unfolding well_formed_argument well_formed call_text
-fitting_real (number.Is n) = refl
-fitting_real number.Not = refl
+well_real n = refl
 
 -- ---- the value of a kind and a payload
 
 module _ (kind n : ℕ) (w : well_formed_argument [] (value kind n) ≡ true) where
-  read_well : read_argument [] kind n ≡ read.Is (value_as kind n)
+  pub under_read : read_argument [] kind n ≡ Some (value_as kind n)
   unfolding read_argument
-  read_well = rw w
+  under_read = rw w
 
-  pub under_value : n < 2 ^ 64 → (v : Value) → read_argument [] kind n ≡ read.Is v → pair_of (cells_of v) ≡ value kind n
+  pub under_cells : n < 2 ^ 64 → pair_of (cells_of (value_as kind n)) ≡ value kind n
   unfolding value_of
-  under_value h v e =
-      let s : v ≡ value_as kind n = cc read_well in
-      ap (λ x. pair_of (cells_of x)) s ∙ argument_cells [] (value kind n) h w
-
-  pub under_never : read_argument [] kind n ≡ read.Not → ⊥
-  under_never e = let z : ◌≡◌ {A = ℕ} 0 1 = cc read_well in omega arith
+  under_cells h = argument_cells [] (value kind n) h w

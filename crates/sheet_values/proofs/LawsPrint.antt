@@ -74,9 +74,10 @@ pub whole_from_zero : (p : ℕ) → p < 2 ^ 63 → 105 ∷ decimal p ≡ 105 ∷
 unfolding print_whole
 whole_from_zero p h = rw (lt-ltb p (2 ^ 63) h)
 
-pub whole_below_zero : (p : ℕ) → 2 ^ 63 ≤ p → p < 2 ^ 64 → 105 ∷ 45 ∷ decimal (2 ^ 64 - 1 - p + 1) ≡ 105 ∷ print_whole p
+-- behind `-` stands the number that wraps around to 0 with the payload
+pub whole_below_zero : (p r : ℕ) → 2 ^ 63 ≤ p → p < 2 ^ 64 → r < 2 ^ 64 → (r + p) % 2 ^ 64 ≡ 0 → 105 ∷ 45 ∷ decimal r ≡ 105 ∷ print_whole p
 unfolding print_whole
-whole_below_zero p h l = rw (le-ltb p (2 ^ 63) h) (ap (λ (n : ℕ). 105 ∷ 45 ∷ decimal n) (omega arith))
+whole_below_zero p r h l m e = rw (le-ltb p (2 ^ 63) h) (ap (λ (n : ℕ). 105 ∷ 45 ∷ decimal n) (omega arith))
 
 -- a part of an area, as the code lends it, is short; it is the text where that lies inside
 pub part_length : (area : List ℕ) (payload : ℕ) → length (part_at area payload) ≤ 255

@@ -2,23 +2,25 @@
 -- the end, and past which limit it is; the room that 16 hexadecimal digits take; then the shortest decimal by its length and its first
 -- digit, and the number behind `-`. Assumes nothing.
 use mathlib.Core.Path.{◌≡◌, refl, sym, ap, ◌∙◌}
-use mathlib.Core.Bool.{Bool, true, false, cond, ◌&&◌, ◌||◌, and-true, and-false}
+use mathlib.Core.Bool.{Bool, true, false, cond, not, ◌&&◌, ◌||◌, and-true, and-false}
 use mathlib.Core.List.{List, [], ◌∷◌}
 use mathlib.Core.Option.{Option, none, some}
-use Prim.Native.Nat.{ℕ, zero, suc, ◌+◌, ◌-◌, ◌*◌, ◌^◌, ◌≤◌, ◌<◌}
+use Prim.Native.Nat.{ℕ, zero, suc, ◌+◌, ◌-◌, ◌*◌, ◌%◌, ◌^◌, ◌≤◌, ◌<◌}
 use native.Mathlib.Nat.{pow-suc, pow-le-pow_right}
 use native.Mathlib.Numerals.{add-one}
 use native.Mathlib.Omega.{arith}
 use lib.Arith.{digits_lt}
-use lib.Dec.{leb, ltb}
-use lib.ListN.{length, drop, get_or, drop_of_length-le}
+use lib.Dec.{leb, ltb, eqb}
+use lib.Pointwise.{pointwise}
+use lib.ListN.{length, take, drop, get_or, drop_of_length-le}
 use lib.Seq.{drop-cons}
 use borrow.Author.Tests.{leb-true, leb-false, le-leb, lt-leb, lt-ltb, le-ltb, eq-eqb, ne_eqb}
 use Rattle.rules.specs.Listing.{all}
 use Rattle.rules.specs.SheetValue.{is_digit, is_hex_digit, worth, number_from, is_shortest, read_decimal, read_whole, read_bits}
 use Rattle.rules.proofs.LawsListing.{and_left, and_right}
 use Rattle.rules.proofs.LawsDigits.{number_least}
-use Rattle.sheet_values.specs.Read.{taken, below, negated, hex_worth}
+use Rattle.std.specs.Bool.{then_some}
+use Rattle.sheet_values.specs.Read.{number_of, taken, below, negated, hex_worth}
 
 -- ---- one digit
 
@@ -37,17 +39,13 @@ module _ (b : ℕ) where
   unfolding hex_worth
   hex_number h = rw (le-leb 48 b (digit_least b h), le-leb b 57 (digit_most b h))
 
-  pub hex_before : is_digit b ≡ false → b < 97 → hex_worth b ≡ none
-  unfolding hex_worth
-  hex_before h l = rw (h, lt-leb 97 b l)
-
-  pub hex_past : 102 < b → hex_worth b ≡ none
-  unfolding hex_worth
-  hex_past l = rw (le-leb 48 b (omega arith), lt-leb b 57 (omega arith), le-leb 97 b (omega arith), lt-leb b 102 l)
-
   pub hex_letter : 97 ≤ b → b ≤ 102 → hex_worth b ≡ some (b - 97 + 10)
   unfolding hex_worth
   hex_letter l m = rw (le-leb 48 b (omega arith), lt-leb b 57 (omega arith), le-leb 97 b l, le-leb b 102 m) (ap some (omega arith))
+
+  pub hex_none_at : is_hex_digit b ≡ false → hex_worth b ≡ none
+  unfolding hex_worth
+  hex_none_at h = rw h
 
 module _ (b : ℕ) (o : Option ℕ) (e : hex_worth b ≡ o) where
   pub hex_none : o ≡ none → is_hex_digit b ≡ false
@@ -146,18 +144,15 @@ module _ (limit : ℕ) where
 
 -- ---- whole numbers
 
-pub whole_empty : (bs : List ℕ) → length bs ≡ 0 → read_whole bs ≡ none
-whole_empty [] h = refl
-whole_empty (b ∷ bs) h = absurd (omega arith)
-
-pub whole_unsigned : (bs : List ℕ) → (length bs ≡ 0 → ⊥) → (get_or bs 0 0 ≡ 45 → ⊥) → read_whole bs ≡ read_decimal (2 ^ 63) bs
-whole_unsigned [] z n = absurd (z refl)
-whole_unsigned (b ∷ bs) z n = rw (ne_eqb b 45 n)
-
-pub whole_negative : (bs : List ℕ) → (length bs ≡ 0 → ⊥) → get_or bs 0 0 ≡ 45 → read_whole bs ≡ negated (read_decimal (2 ^ 63 + 1) (drop 1 bs))
+pub whole_unsigned : (bs : List ℕ) → pointwise eqb (take 1 bs) (45 ∷ []) ≡ false → read_whole bs ≡ read_decimal (2 ^ 63) bs
 unfolding read_decimal
-whole_negative [] z e = absurd (z refl)
-whole_negative (b ∷ bs) z e = rw e (go (is_shortest bs) (number_from 10 0 bs) (leb (number_from 10 0 bs) (2 ^ 63)) refl)
+whole_unsigned [] h = refl
+whole_unsigned (b ∷ bs) h = rw (sym (and-true (eqb b 45)) ∙ h)
+
+pub whole_negative : (bs : List ℕ) → pointwise eqb (take 1 bs) (45 ∷ []) ≡ true → read_whole bs ≡ negated (read_decimal (2 ^ 63 + 1) (drop 1 bs))
+unfolding read_decimal
+whole_negative [] e = let z : ◌≡◌ {A = ℕ} 0 1 = cc in absurd (omega arith)
+whole_negative (b ∷ bs) e = rw (sym (and-true (eqb b 45)) ∙ e) (go (is_shortest bs) (number_from 10 0 bs) (leb (number_from 10 0 bs) (2 ^ 63)) refl)
   where
     go : (t : Bool) (n : ℕ) (l : Bool) → leb n (2 ^ 63) ≡ l
         → cond (t && leb 1 n && leb n (2 ^ 63)) (some (2 ^ 64 - n)) none ≡ negated (cond (t && ltb n (2 ^ 63 + 1)) (some n) none)
@@ -170,6 +165,7 @@ whole_negative (b ∷ bs) z e = rw e (go (is_shortest bs) (number_from 10 0 bs) 
         let m : 2 ^ 63 < suc n = leb-false (suc n) (2 ^ 63) h in
         rw (h, le-leb 1 (suc n) (omega arith), le-ltb (suc n) (2 ^ 63 + 1) (omega arith))
 
-pub negated_some : (n : ℕ) → (n ≡ 0 → ⊥) → negated (some n) ≡ some (2 ^ 64 - 1 - (n - 1))
-negated_some zero h = absurd (h refl)
-negated_some (suc n) h = ap some (omega arith)
+-- a number and its complement wrap around to 0
+pub twos_complement : (n r : ℕ) → n < 2 ^ 64 → r < 2 ^ 64 → (r + n) % 2 ^ 64 ≡ 0 → number_of (then_some (not (eqb n 0)) r) ≡ negated (some n)
+twos_complement zero r l m h = refl
+twos_complement (suc n) r l m h = rw (ne_eqb (suc n) 0 (λ e. omega arith)) (ap some (omega arith))

@@ -42,7 +42,7 @@ fn write_whole(payload: u64, at: usize, out: &mut [u8]) -> usize
     if payload < 0x8000_0000_0000_0000 {
         return write_number(b"i", payload, at, out);
     }
-    write_number(b"i-", 0xffff_ffff_ffff_ffff - payload + 1, at, out)
+    write_number(b"i-", payload.wrapping_neg(), at, out)
 }
 
 // The bits of a real, in 16 hexadecimal digits.

@@ -23,10 +23,10 @@ use Rattle.cells.specs.Out.{Put}
 use Rattle.cells.proofs.LawsOut.{over_length, stored_first, put_same}
 use Rattle.sheet_judge.specs.Judged.{verdict_of}
 use Rattle.sheet_judge.specs.declared.Places.{Places}
-use Rattle.sheet_judge.specs.declared.Judged.{Judged}
-use Rattle.sheet_judge.specs.declared.Judged.TheVariants.{Right, Bad}
+use Rattle.sheet_judge.specs.declared.BadLine.{BadLine}
 use Rattle.sheets.specs.Bind.{Binding, ReadRoom, TextOfRead}
-use Rattle.sheets.specs.declared.Bound.TheVariants.{Written, NoRoom}
+use Rattle.sheets.specs.declared.NoRoom.{NoRoom}
+use Rattle.std.specs.Prelude.{Result, Ok, Err, IsOk}
 use Rattle.sheets.proofs.LawsRecords.{records_fit}
 use Rattle.sheets.proofs.LawsPlaces.{sheets_records}
 
@@ -47,16 +47,16 @@ bind_fits input = verdict_fits input (judge_input 64 64 input)
 -- ---- what is answered
 
 module _ (input out : List ℕ) where
-  pub binding_none : length out < 40960 → Binding input out out NoRoom
+  pub binding_none : length out < 40960 → (e : NoRoom) → Binding input out out (Err e)
   unfolding bound bound_left output_least
-  binding_none h =
+  binding_none h e =
       let low = lt-leb 40960 (length out) h in
       record {
         answer = sym (ap (λ b. cond b (wrote (length (bind_text 64 64 input))) no_room) low);
         output = sym (ap (λ b. cond b (over (bind_text 64 64 input) out) out) low);
       }
 
-  binding_put : 40960 ≤ length out → (after : List ℕ) (n : ℕ) → Put (bind_text 64 64 input) 0 out after n → Binding input out after (Written n)
+  binding_put : 40960 ≤ length out → (after : List ℕ) (n : ℕ) → Put (bind_text 64 64 input) 0 out after n → Binding input out after (Ok n)
   unfolding bound bound_left output_least
   binding_put h after n put =
       let enough = le-leb 40960 (length out) h in
@@ -66,13 +66,13 @@ module _ (input out : List ℕ) where
         output = put.held ∙ stored_first out (bind_text 64 64 input) (omega (arith, bind_fits input)) ∙ sym (ap (λ b. cond b (over (bind_text 64 64 input) out) out) enough);
       }
 
-  module _ (h : 40960 ≤ length out) (judged : Judged) (verdict : verdict_of judged ≡ judge_input 64 64 input) (after : List ℕ) (n : ℕ) where
-    pub binding_bad : (line : ℕ) → judged ≡ Bad line → Put (refusal_text 30 (decimal line)) 0 out after n → Binding input out after (Written n)
+  module _ (h : 40960 ≤ length out) (judged : Result Places BadLine) (verdict : verdict_of judged ≡ judge_input 64 64 input) (after : List ℕ) (n : ℕ) where
+    pub binding_bad : (line : BadLine) → judged ≡ Err line → Put (refusal_text 30 (decimal line.0)) 0 out after n → Binding input out after (Ok n)
     unfolding bind_text
     binding_bad line e put =
-        binding_put h after n (put_same (refusal_text 30 (decimal line)) (bind_text 64 64 input) (ap (verdict_text 64 64 input) (ap verdict_of (sym e) ∙ verdict)) put)
+        binding_put h after n (put_same (refusal_text 30 (decimal line.0)) (bind_text 64 64 input) (ap (verdict_text 64 64 input) (ap verdict_of (sym e) ∙ verdict)) put)
 
-    pub binding_right : (p : Places) → judged ≡ Right p → Put (sheets_text 64 64 (sheets_in input)) 0 out after n → Binding input out after (Written n)
+    pub binding_right : (p : Places) → judged ≡ Ok p → Put (sheets_text 64 64 (sheets_in input)) 0 out after n → Binding input out after (Ok n)
     unfolding bind_text
     binding_right p e put =
         binding_put h after n (put_same (sheets_text 64 64 (sheets_in input)) (bind_text 64 64 input) (ap (verdict_text 64 64 input) (ap verdict_of (sym e) ∙ verdict)) put)
@@ -80,14 +80,15 @@ module _ (input out : List ℕ) where
 -- ---- what an answer says where there is room
 
 module _ (input out : List ℕ) (h : output_least ≤ length out) (after : List ℕ) where
-  pub binding_some : {X : Type 0} → Binding input out after NoRoom → X
+  pub binding_some : (r : Result ℕ NoRoom) → Binding input out after r → IsOk r
   unfolding bound
-  binding_some b =
+  binding_some (Ok n) b = refl
+  binding_some (Err short) b =
       let e = b.answer ∙ ap (λ x. cond x (wrote (length (bind_text 64 64 input))) no_room) (le-leb output_least (length out) h) in
       let z : ◌≡◌ {A = ℕ} 0 1 = cc in
       absurd (omega arith)
 
-  module _ (n : ℕ) (b : Binding input out after (Written n)) where
+  module _ (n : ℕ) (b : Binding input out after (Ok n)) where
     answer_length : n ≡ length (bind_text 64 64 input)
     unfolding bound
     answer_length =
@@ -124,5 +125,5 @@ module _ (buffer : List ℕ) (n : ℕ) (out : List ℕ) (room : ReadRoom buffer 
           let whole : length (take n buffer) ≡ length buffer = ap length (sym e) ∙ length-take-le (length buffer) input (omega arith) in
           too_long (take n buffer) (omega (arith, room.input)) ∙ sym (too_long input (omega (arith, room.input)))
 
-  pub read_text : (after : List ℕ) (len : ℕ) → Binding (take n buffer) out after (Written len) → TextOfRead buffer n (take len after)
+  pub read_text : (after : List ℕ) (len : ℕ) → Binding (take n buffer) out after (Ok len) → TextOfRead buffer n (take len after)
   read_text after len b input e = binding_text (take n buffer) out room.output after len b ∙ read_same input e

@@ -12,11 +12,11 @@ use Rattle.rules.specs.SheetRecords.{sheets_in}
 use Rattle.rules.proofs.LawsListing.{and_left, and_right}
 use Rattle.sheet_judge.specs.Judged.{verdict_of}
 use Rattle.sheet_judge.specs.declared.Places.{Places}
-use Rattle.sheet_judge.specs.declared.Judged.{Judged}
-use Rattle.sheet_judge.specs.declared.Judged.TheVariants.{Right, Bad}
+use Rattle.sheet_judge.specs.declared.BadLine.{BadLine}
 use Rattle.sheets.specs.Read.{room_for, no_room, lengths_of, verdict_reading, reading, reading_of, SheetsReading, Room, RecordsWritten}
 use Rattle.sheets.specs.declared.records.Records.{Records}
-use Rattle.sheets.specs.declared.SheetsRead.TheVariants as code
+use Rattle.sheets.specs.declared.Unread.TheVariants.{Bad, NoRoom}
+use Rattle.std.specs.Prelude.{Result, Ok, Err}
 
 -- outputs that are long enough
 pub room_held : (spec_cells spec call_cells call : List ℕ) → room_for (length spec_cells) (length spec) (length call_cells) (length call) ≡ true → Room spec_cells spec call_cells call
@@ -35,7 +35,7 @@ room_held spec_cells spec call_cells call room =
 
 module _ (input spec_cells spec call_cells call : List ℕ) where
   pub reading_none : room_for (length spec_cells) (length spec) (length call_cells) (length call) ≡ false
-      → SheetsReading input spec_cells spec call_cells call spec_cells spec call_cells call code.NoRoom
+      → SheetsReading input spec_cells spec call_cells call spec_cells spec call_cells call (Err NoRoom)
   unfolding reading
   reading_none none =
       record {
@@ -46,13 +46,13 @@ module _ (input spec_cells spec call_cells call : List ℕ) where
         call_area = refl;
       }
 
-  module _ (room : room_for (length spec_cells) (length spec) (length call_cells) (length call) ≡ true) (judged : Judged) (verdict : verdict_of judged ≡ judge_input 64 64 input) where
+  module _ (room : room_for (length spec_cells) (length spec) (length call_cells) (length call) ≡ true) (judged : Result Places BadLine) (verdict : verdict_of judged ≡ judge_input 64 64 input) where
     -- what is read is the verdict's
     read_verdict : verdict_reading input (verdict_of judged) ≡ reading input spec_cells spec call_cells call
     unfolding reading
     read_verdict = ap (verdict_reading input) verdict ∙ sym (ap (λ b. cond b (verdict_reading input (judge_input 64 64 input)) no_room) room)
 
-    pub reading_bad : (line : ℕ) → judged ≡ Bad line → SheetsReading input spec_cells spec call_cells call spec_cells spec call_cells call (code.Bad line)
+    pub reading_bad : (line : BadLine) → judged ≡ Err line → SheetsReading input spec_cells spec call_cells call spec_cells spec call_cells call (Err (Bad line))
     reading_bad line e =
         record {
           answer = ap (λ j. verdict_reading input (verdict_of j)) (sym e) ∙ read_verdict;
@@ -62,13 +62,13 @@ module _ (input spec_cells spec call_cells call : List ℕ) where
           call_area = refl;
         }
 
-    pub reading_right : (p : Places) → judged ≡ Right p → {spec_cells' spec' call_cells' call' : List ℕ} {r : Records}
+    pub reading_right : (p : Places) → judged ≡ Ok p → {spec_cells' spec' call_cells' call' : List ℕ} {r : Records}
         → RecordsWritten input spec_cells spec call_cells call spec_cells' spec' call_cells' call' r
-        → SheetsReading input spec_cells spec call_cells call spec_cells' spec' call_cells' call' (code.Records r)
+        → SheetsReading input spec_cells spec call_cells call spec_cells' spec' call_cells' call' (Ok r)
     reading_right p e {spec_cells'} {spec'} {call_cells'} {call'} {r} w =
         let list = w.parameters in
         let given = w.arguments in
-        let lengths : reading_of (code.Records r) ≡ lengths_of (sheets_in input) = cc (list.cells_count, list.bytes_count, given.cells_count, given.bytes_count) in
+        let lengths : reading_of (Ok r) ≡ lengths_of (sheets_in input) = cc (list.cells_count, list.bytes_count, given.cells_count, given.bytes_count) in
         record {
           answer = lengths ∙ ap (λ j. verdict_reading input (verdict_of j)) (sym e) ∙ read_verdict;
           parameters = list.cells_held;

@@ -4,7 +4,7 @@ use mathlib.Core.Path.{◌≡◌, sym, ap, ap₂, subst, ◌∙◌}
 use mathlib.Core.List.{List, []}
 use Prim.Native.Nat.{ℕ, ◌≤◌}
 use lib.ListN.{length, replicate}
-use Rattle.rules.specs.Answer.{Answer, fine, refuse, none, ◌then◌}
+use Rattle.rules.specs.Answer.{Answer, fine, ◌then◌}
 use Rattle.rules.specs.Value.{Value}
 use Rattle.rules.specs.CallRecord.{Named, positionals_of, named_of}
 use Rattle.rules.specs.Parameters.{Parameter}
@@ -18,7 +18,11 @@ use Rattle.builder.specs.Params.{parameters_in}
 use Rattle.builder.specs.Build.{IsList}
 use Rattle.builder.specs.declared.spec.ParametersSpec.{ParametersSpec}
 use Rattle.answers.specs.Answer.{told}
-use Rattle.answers.specs.declared.answer.Collected.{Collected}
+use Rattle.std.specs.Prelude.{Result}
+use Rattle.cells.specs.declared.question.Question.{Question}
+use Rattle.cells.specs.Question.{number_of, refused}
+use Rattle.answers.specs.declared.answer.Counts.{Counts}
+use Rattle.answers.specs.declared.answer.Refusal.{Refusal}
 use Rattle.collector.specs.Collect.{Ends, bound_to}
 use Rattle.collector.proofs.LawsEnds.{collection_refused, collection_bound}
 use Rattle.sheet_output.specs.Outcome.{OutcomeRoom, OutcomeReady}
@@ -38,13 +42,13 @@ module _ (spec_cells spec cells call : List ℕ) (l : ParametersSpec) (passes : 
       (collection_bound spec_cells spec cells call zeros (parameters_in spec l.params) passes list)
 
 -- a list that is refused
-pub refused_records : (spec_cells spec cells call : List ℕ) (n : ℕ) → ask_parameters 64 spec_cells spec ≡ refuse n none → records_text spec_cells spec cells call ≡ refusal_text n []
+pub refused_records : (spec_cells spec cells call : List ℕ) (q : Question) → ask_parameters 64 spec_cells spec ≡ refused q → records_text spec_cells spec cells call ≡ refusal_text (number_of q) []
 unfolding records_text
-refused_records spec_cells spec cells call n e =
-    ap (outcome_text spec call (list_of spec_cells spec) (positionals_of (call_of cells call)) (named_of (call_of cells call))) (sym (collection_refused spec_cells spec cells call zeros n e).answer)
+refused_records spec_cells spec cells call q e =
+    ap (outcome_text spec call (list_of spec_cells spec) (positionals_of (call_of cells call)) (named_of (call_of cells call))) (sym (collection_refused spec_cells spec cells call zeros q e).answer)
 
 -- the answer and the board of a call against a list, printed
-module _ (spec : List ℕ) (l : ParametersSpec) (ready : ListReady spec l) (cells call board : List ℕ) (r : Collected) (ends : Ends (bound_to (parameters_in spec l.params) cells call zeros) zeros board r) where
+module _ (spec : List ℕ) (l : ParametersSpec) (ready : ListReady spec l) (cells call board : List ℕ) (r : Result Counts Refusal) (ends : Ends (bound_to (parameters_in spec l.params) cells call zeros) zeros board r) where
   is_list : ask_parameters 64 ready.cells spec ≡ fine → IsList spec l (list_of ready.cells spec)
   is_list e = subst (IsList spec l) ready.list ready.prepared.is_list
 

@@ -1,6 +1,6 @@
 -- What binding two sheets promises (01, sheets and the program bind): the text of any input in a lent output, of an input that was read into a
 -- buffer, and the texts that are put on the way there, of two records and of a call against a list.
-use Rattle.std.specs.Prelude.{◌≡◌, List, ℕ, ◌≤◌, ◌<◌, length, take, replicate}
+use Rattle.std.specs.Prelude.{Result, Ok, Err, ◌≡◌, List, ℕ, ◌≤◌, ◌<◌, length, take, replicate}
 use Rattle.rules.specs.Answer.{fine}
 use Rattle.rules.specs.CallRecord.{positionals_of, named_of}
 use Rattle.rules.specs.Parameters.{Parameter}
@@ -12,8 +12,7 @@ use Rattle.builder.specs.Params.{parameters_in}
 use Rattle.builder.specs.declared.spec.ParametersSpec.{ParametersSpec}
 use Rattle.findings.specs.Resolve.{Prepared}
 use Rattle.collector.specs.Collect.{bound_to}
-use Rattle.sheets.specs.declared.Bound.{Bound}
-use Rattle.sheets.specs.declared.Bound.TheVariants.{Written, NoRoom}
+use Rattle.sheets.specs.declared.NoRoom.{NoRoom}
 
 -- a call record against a list, over a board of zeros
 unfoldable pub bound_text : List Parameter → List ℕ → List ℕ → List ℕ → List ℕ
@@ -33,12 +32,12 @@ pub record ListReady (spec : List ℕ) (l : ParametersSpec) : Type 0 where
   pub passes : ask_parameters 64 cells spec ≡ fine
   pub list : parameters_in spec l.params ≡ list_of cells spec
 
-abbrev pub bound_of : Bound → rules.Bound
-bound_of (Written n) = rules.wrote n
-bound_of NoRoom = rules.no_room
+abbrev pub bound_of : Result ℕ NoRoom → rules.Bound
+bound_of (Ok n) = rules.wrote n
+bound_of (Err _) = rules.no_room
 
 -- what is answered, and what the output then holds
-pub record Binding (input before after : List ℕ) (r : Bound) : Type 0 where
+pub record Binding (input before after : List ℕ) (r : Result ℕ NoRoom) : Type 0 where
   pub answer : bound_of r ≡ rules.bound 64 64 input before
   pub output : after ≡ rules.bound_left 64 64 input before
 

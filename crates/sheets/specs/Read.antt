@@ -1,6 +1,6 @@
 -- What reading two sheets into lent outputs promises (01, sheets; 30 and its line): the records that `bind` binds, each from the first cell or byte
 -- of its output on. Outputs that are too short for some input are refused first, as `bind` refuses a short one.
-use Rattle.std.specs.Prelude.{◌≡◌, Bool, cond, ◌&&◌, List, ℕ, ◌≤◌, leb, length}
+use Rattle.std.specs.Prelude.{Result, Ok, Err, ◌≡◌, Bool, cond, ◌&&◌, List, ℕ, ◌≤◌, leb, length}
 use Rattle.rules.specs.Cells.{over}
 use Rattle.rules.specs.ParameterRecord.{encode_parameters}
 use Rattle.rules.specs.CallRecord.{encode_call}
@@ -8,8 +8,8 @@ use Rattle.rules.specs.SheetInput.{Verdict, right, bad, judge_input}
 use Rattle.rules.specs.SheetRecords.{Sheets, sheets_in}
 use Rattle.sheet_records.specs.Written.{RecordWritten}
 use Rattle.sheets.specs.declared.records.Records.{Records}
-use Rattle.sheets.specs.declared.SheetsRead.{SheetsRead}
-use Rattle.sheets.specs.declared.SheetsRead.TheVariants as code
+use Rattle.sheets.specs.declared.Unread.{Unread}
+use Rattle.sheets.specs.declared.Unread.TheVariants.{Bad, NoRoom}
 
 -- outputs of these lengths have room for any records: 66 steps of four cells behind the function's name, 64 values or pairs of each part behind
 -- six cells, and no more bytes of texts than an input has
@@ -41,13 +41,13 @@ left_by (held a b c d) xs out = over xs out
 
 -- ---- as the code answers
 
-abbrev pub reading_of : SheetsRead → Reading
-reading_of code.NoRoom = no_room
-reading_of (code.Bad line) = bad_line 30 line
-reading_of (code.Records r) = held r.spec.cells r.spec.bytes r.call.cells r.call.bytes
+abbrev pub reading_of : Result Records Unread → Reading
+reading_of (Err NoRoom) = no_room
+reading_of (Err (Bad line)) = bad_line 30 line.0
+reading_of (Ok r) = held r.spec.cells r.spec.bytes r.call.cells r.call.bytes
 
 -- four outputs before, and after
-pub record SheetsReading (input spec_cells spec call_cells call spec_cells' spec' call_cells' call' : List ℕ) (r : SheetsRead) : Type 0 where
+pub record SheetsReading (input spec_cells spec call_cells call spec_cells' spec' call_cells' call' : List ℕ) (r : Result Records Unread) : Type 0 where
   pub answer : reading_of r ≡ reading input spec_cells spec call_cells call
   pub parameters : spec_cells' ≡ left_by (reading_of r) (encode_parameters (sheets_in input).parameters) spec_cells
   pub spec_area : spec' ≡ left_by (reading_of r) (sheets_in input).spec_area spec

@@ -11,7 +11,6 @@ ghost use Rattle.sheets.specs.Read.{Room, RecordsWritten};
 
 use builder::build;
 use builder::spec::ParametersSpec;
-use cells::answer::Answer;
 use collector::collect::{BOARD, bind};
 use sheet_judge::Places;
 use sheet_output::outcome::{write_outcome, write_refusal};
@@ -26,7 +25,7 @@ pub const CALL_CELLS: usize = 774;
 pub const TEXTS: usize = 16384;
 
 // How many cells and bytes each of the two records takes.
-#[derive(Drop)]
+#[derive(Clone, Copy, Debug, PartialEq, Eq)]
 pub struct Records {
     pub spec: Written,
     pub call: Written,
@@ -44,18 +43,22 @@ pub(crate) fn write_records(
     requires { PlacesAre input.now places × Room spec_cells.old spec.old call_cells.old call.old }
     ensures { RecordsWritten input.now spec_cells.old spec.old call_cells.old call.old spec_cells.new spec.new call_cells.new call.new result }
 {
-    let columns = places.parameters;
     let list = write_parameters(
         input,
-        columns,
+        places.parameters,
         places.parameter_rows,
         places.rows,
         spec_cells,
         spec,
     );
-    let columns = places.call;
-    let counts = places.counts;
-    let given = write_call(input, columns, places.call_rows, counts, call_cells, call);
+    let given = write_call(
+        input,
+        places.call,
+        places.call_rows,
+        places.counts,
+        call_cells,
+        call,
+    );
     Records {
         spec: list,
         call: given,
@@ -101,25 +104,22 @@ fn bind_records<'a>(
     requires { 40960 ≤ length out.old }
     ensures { Put (records_text spec_cells.now spec.now call_cells.now call.now) 0 out.old out.new result }
 {
-    let built = build(spec_cells, spec);
-    let listed = built.answer;
-    if let Answer::Refused(question) = listed {
-        return write_refusal(question, b"", out);
+    match build(spec_cells, spec) {
+        Ok(list) => bind_list(&list, spec, call_cells, call, out),
+        Err(question) => write_refusal(question.number(), b"", out),
     }
-    let list = built.list;
-    bind_list(list, spec, call_cells, call, out)
 }
 
 // The board, and what is printed of it and of the answer.
 fn bind_list<'a>(
-    list: ParametersSpec,
+    list: &ParametersSpec,
     spec: &'a [u8],
     cells: &'a [u64],
     call: &'a [u8],
     out: &mut [u8],
 ) -> usize
-    requires { ListReady spec.now list × (40960 ≤ length out.old) }
-    ensures { Put (bound_text (parameters_in spec.now list.params) spec.now cells.now call.now) 0 out.old out.new result }
+    requires { ListReady spec.now list.now × (40960 ≤ length out.old) }
+    ensures { Put (bound_text (parameters_in spec.now list.now.params) spec.now cells.now call.now) 0 out.old out.new result }
 {
     let mut board: [u64; BOARD] = [0; BOARD];
     let answer = bind(list, spec, cells, call, &mut board);

@@ -63,16 +63,12 @@ empty_required args false n cells v stars named = refl
 empty_required kwargs true n cells v stars named = refl
 empty_required kwargs false n cells v stars named = refl
 
-slot_missing : (codes kinds payloads sources cells : List ℕ) (h : Head) (next k stars named : ℕ) (spec : List ℕ) (p : Parameters) → codes ≡ p.codes → kinds ≡ p.default_kinds → payloads ≡ p.default_payloads
-    → (is_required (parameter_at spec p k).kind && rules.is_unfilled (slot_at codes kinds payloads sources cells h next k stars named)) ≡ (not (ltb k next) && (eqb (get_or codes k 0) 1 && eqb (get_or sources k 0) 0))
+slot_missing : (p : Parameters) (sources cells : List ℕ) (h : Head) (next k stars named : ℕ) (spec : List ℕ)
+    → (is_required (parameter_at spec p k).kind && rules.is_unfilled (slot_at p sources cells h next k stars named)) ≡ (not (ltb k next) && (eqb (get_or p.codes k 0) 1 && eqb (get_or sources k 0) 0))
 unfolding parameter_at parameter_of slot_at
-slot_missing codes kinds payloads sources cells h next k stars named spec p c d e =
-    ap (λ x. is_required x && rules.is_unfilled (slot_at codes kinds payloads sources cells h next k stars named)) same
-    ∙ empty_required (kind_for (act_of (get_or codes k 0) (value (get_or kinds k 0) (get_or payloads k 0)))) (ltb k next) (get_or sources k 0) cells (read_value (drop (position_at 64 h k) cells)) stars named
-    ∙ ap (λ b. not (ltb k next) && (b && eqb (get_or sources k 0) 0)) (required_code (get_or codes k 0) (value (get_or kinds k 0) (get_or payloads k 0)))
-  where
-    same : kind_for (act_of (get_or p.codes k 0) (value (get_or p.default_kinds k 0) (get_or p.default_payloads k 0))) ≡ kind_for (act_of (get_or codes k 0) (value (get_or kinds k 0) (get_or payloads k 0)))
-    same = rw (← c, ← d, ← e)
+slot_missing p sources cells h next k stars named spec =
+    empty_required (kind_for (act_of (get_or p.codes k 0) (value (get_or p.default_kinds k 0) (get_or p.default_payloads k 0)))) (ltb k next) (get_or sources k 0) cells (read_value (drop (position_at 64 h k) cells)) stars named
+    ∙ ap (λ b. not (ltb k next) && (b && eqb (get_or sources k 0) 0)) (required_code (get_or p.codes k 0) (value (get_or p.default_kinds k 0) (get_or p.default_payloads k 0)))
 
 module _ (spec : List ℕ) (l : ParametersSpec) (list : Prepared spec l) where
   abbrev qs : List Parameter
@@ -115,7 +111,7 @@ module _ (spec : List ℕ) (l : ParametersSpec) (list : Prepared spec l) where
 
     module _ (h : Head) (values : (k : ℕ) → k < length P → get_or P k no_value ≡ positional_at cells h k) (stars named : ℕ) where
       -- each slot
-      slot_is : (k : ℕ) → k < length qs → rules.slot_of P N stars named k (get_or qs k any_parameter) ≡ slot_at l.params.codes l.params.default_kinds l.params.default_payloads sources cells h next k stars named
+      slot_is : (k : ℕ) → k < length qs → rules.slot_of P N stars named k (get_or qs k any_parameter) ≡ slot_at l.params sources cells h next k stars named
       unfolding rules.slot_of slot_at parameter_at parameter_of
       slot_is k u =
           ap₂ (λ b o. cond b (rules.taken (get_or P k no_value)) (rules.taken_or o (rules.otherwise (get_or qs k any_parameter).kind stars named))) (from_P k u) (r.sources_are k any_parameter u)
@@ -134,11 +130,11 @@ module _ (spec : List ℕ) (l : ParametersSpec) (list : Prepared spec l) where
       place_is = refl
 
       -- all of them
-      pub slots_are : map_from (rules.slot_of P N stars named) 0 qs ≡ slots_of l.params.codes l.params.default_kinds l.params.default_payloads sources cells h next stars named l.params.len
+      pub slots_are : map_from (rules.slot_of P N stars named) 0 qs ≡ slots_of l.params sources cells h next stars named l.params.len
       unfolding parameters_in
       slots_are =
           map_from_listed (rules.slot_of P N stars named) (parameter_at spec l.params) 0 l.params.len
-          ∙ Listed-same (λ k. rules.slot_of P N stars named k (parameter_at spec l.params k)) (λ k. slot_at l.params.codes l.params.default_kinds l.params.default_payloads sources cells h next k stars named) 0 l.params.len
+          ∙ Listed-same (λ k. rules.slot_of P N stars named k (parameter_at spec l.params k)) (λ k. slot_at l.params sources cells h next k stars named) 0 l.params.len
           (λ k low high. ap (rules.slot_of P N stars named k) (sym (parameter_is k (few k high))) ∙ slot_is k (few k high))
         where
           few : (k : ℕ) → k < 0 + l.params.len → k < length qs
@@ -159,4 +155,4 @@ module _ (spec : List ℕ) (l : ParametersSpec) (list : Prepared spec l) where
           tested : (k : ℕ) → k < length qs → (is_required (get_or qs k any_parameter).kind && rules.is_unfilled (rules.slot_of P N stars named k (get_or qs k any_parameter))) ≡ (not (ltb k next) && (eqb (get_or l.params.codes k 0) 1 && eqb (get_or sources k 0) 0))
           tested k u =
               ap₂ (λ q s. is_required q.kind && rules.is_unfilled s) (parameter_is k u) (slot_is k u)
-              ∙ slot_missing l.params.codes l.params.default_kinds l.params.default_payloads sources cells h next k stars named spec l.params refl refl refl
+              ∙ slot_missing l.params sources cells h next k stars named spec

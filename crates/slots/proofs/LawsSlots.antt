@@ -1,4 +1,4 @@
--- Laws of slots: the slot of a code that is none of 1, 2, 3 and 6; slot k by the tests that the code makes.
+-- Laws of slots: slot k by the tests that the code makes.
 -- Assumes nothing.
 use mathlib.Core.Path.{◌≡◌, refl, ap, ◌∙◌}
 use mathlib.Core.Bool.{cond}
@@ -7,44 +7,33 @@ use Prim.Native.Nat.{ℕ, zero, suc, ◌≤◌, ◌<◌}
 use native.Mathlib.Omega.{arith}
 use borrow.Author.Tests.{lt-ltb, le-ltb}
 use lib.ListN.{get_or}
-use Rattle.rules.specs.Value.{Value}
 use Rattle.rules.specs.CallRecord.{Head}
-use Rattle.rules.specs.Placement.{taken, named_count, taken_or}
+use Rattle.rules.specs.Placement.{taken, taken_or}
 use Rattle.cells.specs.Value.{value}
 use Rattle.cells.specs.Record.{pair_at}
+use Rattle.builder.specs.declared.params.Parameters.{Parameters}
 use Rattle.calls.specs.Places.{position_at}
 use Rattle.findings.specs.Resolved.{source_value}
 use Rattle.slots.specs.Slots.{unfilled_as, slot_at}
 use Rattle.findings.proofs.LawsResolved.{source_some}
 
-pub unfilled_other : (code : ℕ) (v : Value) → (code ≡ 1 → ⊥) → (code ≡ 2 → ⊥) → (code ≡ 3 → ⊥) → (code ≡ 6 → ⊥) → (λ (stars named : ℕ). named_count named) ≡ unfilled_as code v
-unfilled_other zero v a b c d = refl
-unfilled_other (suc zero) v a b c d = absurd (a refl)
-unfilled_other (suc (suc zero)) v a b c d = absurd (b refl)
-unfilled_other (suc (suc (suc zero))) v a b c d = absurd (c refl)
-unfilled_other (suc (suc (suc (suc zero)))) v a b c d = refl
-unfilled_other (suc (suc (suc (suc (suc zero))))) v a b c d = refl
-unfilled_other (suc (suc (suc (suc (suc (suc zero)))))) v a b c d = absurd (d refl)
-unfilled_other (suc (suc (suc (suc (suc (suc (suc zero))))))) v a b c d = refl
-unfilled_other (suc (suc (suc (suc (suc (suc (suc (suc n)))))))) v a b c d = refl
-
-module _ (codes kinds payloads sources cells : List ℕ) (h : Head) (next k : ℕ) where
-  pub slot_below : k < next → slot_at codes kinds payloads sources cells h next k ≡ (λ (stars named : ℕ). taken (pair_at cells (position_at 64 h k)))
+module _ (p : Parameters) (sources cells : List ℕ) (h : Head) (next k : ℕ) where
+  pub slot_below : k < next → slot_at p sources cells h next k ≡ (λ (stars named : ℕ). taken (pair_at cells (position_at 64 h k)))
   unfolding slot_at pair_at
-  slot_below e = ap (λ b (stars named : ℕ). cond b (taken (pair_at cells (position_at 64 h k))) (taken_or (source_value cells (get_or sources k 0)) (unfilled_as (get_or codes k 0) (value (get_or kinds k 0) (get_or payloads k 0)) stars named))) (lt-ltb k next e)
+  slot_below e = ap (λ b (stars named : ℕ). cond b (taken (pair_at cells (position_at 64 h k))) (taken_or (source_value cells (get_or sources k 0)) (unfilled_as (get_or p.codes k 0) (value (get_or p.default_kinds k 0) (get_or p.default_payloads k 0)) stars named))) (lt-ltb k next e)
 
   -- past P
-  past : next ≤ k → slot_at codes kinds payloads sources cells h next k ≡ (λ (stars named : ℕ). taken_or (source_value cells (get_or sources k 0)) (unfilled_as (get_or codes k 0) (value (get_or kinds k 0) (get_or payloads k 0)) stars named))
+  past : next ≤ k → slot_at p sources cells h next k ≡ (λ (stars named : ℕ). taken_or (source_value cells (get_or sources k 0)) (unfilled_as (get_or p.codes k 0) (value (get_or p.default_kinds k 0) (get_or p.default_payloads k 0)) stars named))
   unfolding slot_at pair_at
-  past e = ap (λ b (stars named : ℕ). cond b (taken (pair_at cells (position_at 64 h k))) (taken_or (source_value cells (get_or sources k 0)) (unfilled_as (get_or codes k 0) (value (get_or kinds k 0) (get_or payloads k 0)) stars named))) (le-ltb k next e)
+  past e = ap (λ b (stars named : ℕ). cond b (taken (pair_at cells (position_at 64 h k))) (taken_or (source_value cells (get_or sources k 0)) (unfilled_as (get_or p.codes k 0) (value (get_or p.default_kinds k 0) (get_or p.default_payloads k 0)) stars named))) (le-ltb k next e)
 
-  pub slot_named : next ≤ k → (get_or sources k 0 ≡ 0 → ⊥) → slot_at codes kinds payloads sources cells h next k ≡ (λ (stars named : ℕ). taken (pair_at cells (get_or sources k 0)))
+  pub slot_named : next ≤ k → (get_or sources k 0 ≡ 0 → ⊥) → slot_at p sources cells h next k ≡ (λ (stars named : ℕ). taken (pair_at cells (get_or sources k 0)))
   unfolding pair_at
-  slot_named e s = past e ∙ ap (λ o (stars named : ℕ). taken_or o (unfilled_as (get_or codes k 0) (value (get_or kinds k 0) (get_or payloads k 0)) stars named)) (source_some cells (get_or sources k 0) (pos (get_or sources k 0) s))
+  slot_named e s = past e ∙ ap (λ o (stars named : ℕ). taken_or o (unfilled_as (get_or p.codes k 0) (value (get_or p.default_kinds k 0) (get_or p.default_payloads k 0)) stars named)) (source_some cells (get_or sources k 0) (pos (get_or sources k 0) s))
     where
       pos : (n : ℕ) → (n ≡ 0 → ⊥) → 0 < n
       pos zero f = absurd (f refl)
       pos (suc n) f = omega arith
 
-  pub slot_unfilled : next ≤ k → get_or sources k 0 ≡ 0 → slot_at codes kinds payloads sources cells h next k ≡ unfilled_as (get_or codes k 0) (value (get_or kinds k 0) (get_or payloads k 0))
-  slot_unfilled e s = past e ∙ ap (λ n (stars named : ℕ). taken_or (source_value cells n) (unfilled_as (get_or codes k 0) (value (get_or kinds k 0) (get_or payloads k 0)) stars named)) s
+  pub slot_unfilled : next ≤ k → get_or sources k 0 ≡ 0 → slot_at p sources cells h next k ≡ unfilled_as (get_or p.codes k 0) (value (get_or p.default_kinds k 0) (get_or p.default_payloads k 0))
+  slot_unfilled e s = past e ∙ ap (λ n (stars named : ℕ). taken_or (source_value cells n) (unfilled_as (get_or p.codes k 0) (value (get_or p.default_kinds k 0) (get_or p.default_payloads k 0)) stars named)) s

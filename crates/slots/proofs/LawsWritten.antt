@@ -70,9 +70,9 @@ module _ (slots : List rules.Slot) (values : List Value) (names : List Named) (l
       first : stored (stored before 0 (write_each slot_cells slots)) (2 * len) (write_each value_cells values) ≡ stored before 0 (write_each slot_cells slots ++ write_each value_cells values)
       first = stored_stored before (write_each slot_cells slots) (write_each value_cells values) 0 (2 * len) (omega (arith, slots_wide)) (omega (arith, values_wide))
 
-module _ (codes kinds payloads : List ℕ) (len positional : ℕ) (cells : List ℕ) (h : Head) (next : ℕ) (sources rest : List ℕ) (count star : ℕ) (before : List ℕ) (ready : BoardReady len positional cells h rest count before) (left : star ≡ star_left positional h) where
+module _ (l : ParametersSpec) (cells : List ℕ) (h : Head) (next : ℕ) (sources rest : List ℕ) (count star : ℕ) (before : List ℕ) (ready : BoardReady l cells h rest count before) (left : star ≡ star_left l.indices.num_positional h) where
   abbrev slots_of_lem : List rules.Slot
-  slots_of_lem = slots_of codes kinds payloads sources cells h next star count len
+  slots_of_lem = slots_of l.params sources cells h next star count l.params.len
 
   abbrev counted : Filled → Counts
   counted f = record { taken = f.taken; defaulted = f.defaulted; star = star; named = count }
@@ -84,11 +84,11 @@ module _ (codes kinds payloads : List ℕ) (len positional : ℕ) (cells : List 
       least = omega (arith, ready.held.few, ready.held.pairs)
 
   -- the cells fit
-  pub written_fits : (area : List ℕ) → length (written_in codes kinds payloads len positional area cells h next sources rest count) ≤ length before
+  pub written_fits : (area : List ℕ) → length (written_in l area cells h next sources rest count) ≤ length before
   written_fits area =
       omega (
         arith,
-        parts_length (slots_in codes kinds payloads len positional cells h next sources count) (values_in cells h positional (star_left positional h)) (held_names area cells rest count) len (star_left positional h) count (length_listed _ 0 len) (length_listed (positional_at cells h) positional (star_left positional h)) (held_length area),
+        parts_length (slots_in l cells h next sources count) (values_in cells h l.indices.num_positional (star_left l.indices.num_positional h)) (held_names area cells rest count) l.params.len (star_left l.indices.num_positional h) count (length_listed _ 0 l.params.len) (length_listed (positional_at cells h) l.indices.num_positional (star_left l.indices.num_positional h)) (held_length area),
         ready.room,
         ready.few.few_p,
         ready.few.few_s,
@@ -97,20 +97,20 @@ module _ (codes kinds payloads : List ℕ) (len positional : ℕ) (cells : List 
       )
 
   pub board_written : (slots-in values-in after : List ℕ) (f : Filled) → Filling slots_of_lem before slots-in f
-      → values-in ≡ stored slots-in (2 * len) (write_each value_cells (values_in cells h positional star))
-      → ((area : List ℕ) → after ≡ stored values-in (2 * len + 2 * star) (write_each named_cells (held_names area cells rest count)))
-      → BoardWritten codes kinds payloads len positional cells h next sources rest count before after (counted f)
+      → values-in ≡ stored slots-in (2 * l.params.len) (write_each value_cells (values_in cells h l.indices.num_positional star))
+      → ((area : List ℕ) → after ≡ stored values-in (2 * l.params.len + 2 * star) (write_each named_cells (held_names area cells rest count)))
+      → BoardWritten l cells h next sources rest count before after (counted f)
   board_written slots-in values-in after f fill ev en =
       record {
         board =
             λ area.
             en area
-            ∙ ap (λ b. stored b (2 * len + 2 * star) (write_each named_cells (held_names area cells rest count))) (ev ∙ ap (λ b. stored b (2 * len) (write_each value_cells (values_in cells h positional star))) fill.board)
-            ∙ parts_stored slots_of_lem (values_in cells h positional star) (held_names area cells rest count) len star count (length_listed _ 0 len) (length_listed (positional_at cells h) positional star) (held_length area) before
+            ∙ ap (λ b. stored b (2 * l.params.len + 2 * star) (write_each named_cells (held_names area cells rest count))) (ev ∙ ap (λ b. stored b (2 * l.params.len) (write_each value_cells (values_in cells h l.indices.num_positional star))) fill.board)
+            ∙ parts_stored slots_of_lem (values_in cells h l.indices.num_positional star) (held_names area cells rest count) l.params.len star count (length_listed _ 0 l.params.len) (length_listed (positional_at cells h) l.indices.num_positional star) (held_length area) before
             (omega (arith, ready.room, ready.few.few_p, ready.few.few_s, ready.held.few, ready.long))
-            ∙ ap (λ n. stored before 0 (write_each slot_cells (slots_of codes kinds payloads sources cells h next n count len) ++ (write_each value_cells (values_in cells h positional n) ++ write_each named_cells (held_names area cells rest count)))) left;
-        taken = fill.taken ∙ ap (λ n. tally rules.is_taken (slots_of codes kinds payloads sources cells h next n count len)) left;
-        defaulted = fill.defaulted ∙ ap (λ n. tally rules.is_defaulted (slots_of codes kinds payloads sources cells h next n count len)) left;
+            ∙ ap (λ n. stored before 0 (write_each slot_cells (slots_of l.params sources cells h next n count l.params.len) ++ (write_each value_cells (values_in cells h l.indices.num_positional n) ++ write_each named_cells (held_names area cells rest count)))) left;
+        taken = fill.taken ∙ ap (λ n. tally rules.is_taken (slots_of l.params sources cells h next n count l.params.len)) left;
+        defaulted = fill.defaulted ∙ ap (λ n. tally rules.is_defaulted (slots_of l.params sources cells h next n count l.params.len)) left;
         star = left;
         named = refl;
       }
@@ -143,22 +143,22 @@ module _ (spec : List ℕ) (l : ParametersSpec) (list : Prepared spec l) (cells 
           ∙ values (positional_count qs + k) (omega (arith, length-drop (positional_count qs) P))
           ∙ ap (λ n. positional_at cells h (n + k)) (sym list.is_list.positional)
 
-  place_slots : rules.place qs P N ≡ slots_in l.params.codes l.params.default_kinds l.params.default_payloads l.params.len l.indices.num_positional cells h next sources count
+  place_slots : rules.place qs P N ≡ slots_in l cells h next sources count
   place_slots =
       place_is spec l list cells area P N sources rest count next upto r h values (star_left l.indices.num_positional h) count
       ∙ slots_are spec l list cells area P N sources rest count next upto r h values (length (rules.star_remainder qs P)) (length (rules.named_remainder qs N))
-      ∙ ap₂ (λ a b. slots_of l.params.codes l.params.default_kinds l.params.default_payloads sources cells h next a b l.params.len) star_length (remainder_length qs cells area N sources rest count r few)
+      ∙ ap₂ (λ a b. slots_of l.params sources cells h next a b l.params.len) star_length (remainder_length qs cells area N sources rest count r few)
 
-  written_is : written qs P N ≡ written_in l.params.codes l.params.default_kinds l.params.default_payloads l.params.len l.indices.num_positional area cells h next sources rest count
+  written_is : written qs P N ≡ written_in l area cells h next sources rest count
   unfolding written
   written_is = ap₂ (λ a b. write_each slot_cells a ++ b) place_slots (ap₂ (λ a b. write_each value_cells a ++ write_each named_cells b) star_is r.rest_is)
 
-  module _ (before after : List ℕ) (c : Counts) (so : BoardWritten l.params.codes l.params.default_kinds l.params.default_payloads l.params.len l.indices.num_positional cells h next sources rest count before after c) where
-    pub board_placed : BoardReady l.params.len l.indices.num_positional cells h rest count before → after ≡ board_after qs P N before
+  module _ (before after : List ℕ) (c : Counts) (so : BoardWritten l cells h next sources rest count before after c) where
+    pub board_placed : BoardReady l cells h rest count before → after ≡ board_after qs P N before
     unfolding board_after
     board_placed ready =
         so.board area ∙ ap (stored before 0) (sym written_is)
-        ∙ stored_first before (written qs P N) (rw written_is (written_fits l.params.codes l.params.default_kinds l.params.default_payloads l.params.len l.indices.num_positional cells h next sources rest count (star_left l.indices.num_positional h) before ready refl area))
+        ∙ stored_first before (written qs P N) (rw written_is (written_fits l cells h next sources rest count (star_left l.indices.num_positional h) before ready refl area))
 
     pub counts_placed : answer.counts_of c ≡ rules.counts_of qs P N
     unfolding rules.counts_of

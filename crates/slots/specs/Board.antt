@@ -1,4 +1,4 @@
--- The pairs of the named remainder as they are written, and the board of an accepted call by the list's columns and the sources of names.
+-- The pairs of the named remainder as they are written, and the board of an accepted call by the list and the sources of names.
 use Rattle.std.specs.Prelude.{◌≡◌, List, ◌++◌, ℕ, ◌+◌, ◌-◌, ◌≤◌, ◌<◌, length, get_or}
 use Rattle.rules.specs.Listing.{tally}
 use Rattle.rules.specs.Cells.{write_each}
@@ -8,6 +8,7 @@ use Rattle.rules.specs.Placement as rules
 use Rattle.rules.specs.Board.{slot_cells, named_cells}
 use Rattle.cells.specs.Record.{pair_at}
 use Rattle.cells.specs.Out.{stored}
+use Rattle.builder.specs.declared.spec.ParametersSpec.{ParametersSpec}
 use Rattle.calls.specs.Head.{Few}
 use Rattle.calls.specs.Values.{values_in}
 use Rattle.findings.specs.Entries.{held_names}
@@ -25,29 +26,27 @@ pub record RestHeld (cells rest : List ℕ) (count : ℕ) : Type 0 where
 abbrev pub star_left : ℕ → Head → ℕ
 star_left positional h = h.p + h.s - positional
 
--- the slots of a list, by its columns, how many parameters it has and how many of them are positional, where the named remainder has `count`
--- elements
-abbrev pub slots_in : (codes kinds payloads : List ℕ) (len positional : ℕ) → List ℕ → Head → ℕ → List ℕ → ℕ → List rules.Slot
-slots_in codes kinds payloads len positional cells h next sources count =
-    slots_of codes kinds payloads sources cells h next (star_left positional h) count len
+-- the slots of a list, where the named remainder has `count` elements
+abbrev pub slots_in : ParametersSpec → List ℕ → Head → ℕ → List ℕ → ℕ → List rules.Slot
+slots_in l cells h next sources count = slots_of l.params sources cells h next (star_left l.indices.num_positional h) count l.params.len
 
 -- the cells that are written
-abbrev pub written_in : (codes kinds payloads : List ℕ) (len positional : ℕ) → List ℕ → List ℕ → Head → ℕ → List ℕ → List ℕ → ℕ → List ℕ
-written_in codes kinds payloads len positional area cells h next sources rest count =
-    write_each slot_cells (slots_in codes kinds payloads len positional cells h next sources count)
-    ++ (write_each value_cells (values_in cells h positional (star_left positional h)) ++ write_each named_cells (held_names area cells rest count))
+abbrev pub written_in : ParametersSpec → List ℕ → List ℕ → Head → ℕ → List ℕ → List ℕ → ℕ → List ℕ
+written_in l area cells h next sources rest count =
+    write_each slot_cells (slots_in l cells h next sources count)
+    ++ (write_each value_cells (values_in cells h l.indices.num_positional (star_left l.indices.num_positional h)) ++ write_each named_cells (held_names area cells rest count))
 
 -- a list and a call within the limits, and a board that has room for them
-pub record BoardReady (len positional : ℕ) (cells : List ℕ) (h : Head) (rest : List ℕ) (count : ℕ) (board : List ℕ) : Type 0 where
-  pub room : len ≤ 64
-  pub few_positional : positional ≤ 64
+pub record BoardReady (l : ParametersSpec) (cells : List ℕ) (h : Head) (rest : List ℕ) (count : ℕ) (board : List ℕ) : Type 0 where
+  pub room : l.params.len ≤ 64
+  pub few_positional : l.indices.num_positional ≤ 64
   pub few : Few 64 h
   pub held : RestHeld cells rest count
   pub long : 896 ≤ length board
 
-pub record BoardWritten (codes kinds payloads : List ℕ) (len positional : ℕ) (cells : List ℕ) (h : Head) (next : ℕ) (sources rest : List ℕ) (count : ℕ) (before after : List ℕ) (r : Counts) : Type 0 where
-  pub board : (area : List ℕ) → after ≡ stored before 0 (written_in codes kinds payloads len positional area cells h next sources rest count)
-  pub taken : r.taken ≡ tally rules.is_taken (slots_in codes kinds payloads len positional cells h next sources count)
-  pub defaulted : r.defaulted ≡ tally rules.is_defaulted (slots_in codes kinds payloads len positional cells h next sources count)
-  pub star : r.star ≡ star_left positional h
+pub record BoardWritten (l : ParametersSpec) (cells : List ℕ) (h : Head) (next : ℕ) (sources rest : List ℕ) (count : ℕ) (before after : List ℕ) (r : Counts) : Type 0 where
+  pub board : (area : List ℕ) → after ≡ stored before 0 (written_in l area cells h next sources rest count)
+  pub taken : r.taken ≡ tally rules.is_taken (slots_in l cells h next sources count)
+  pub defaulted : r.defaulted ≡ tally rules.is_defaulted (slots_in l cells h next sources count)
+  pub star : r.star ≡ star_left l.indices.num_positional h
   pub named : r.named ≡ count

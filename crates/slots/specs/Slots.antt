@@ -1,4 +1,4 @@
--- A slot of the code, and what stands in slot k by the list's columns and the sources of names.
+-- A slot of the code, and what stands in slot k by the list's parameters and the sources of names.
 use Rattle.std.specs.Prelude.{◌≡◌, cond, List, ℕ, ltb, drop, get_or}
 use Rattle.rules.specs.Listing.{tally}
 use Rattle.rules.specs.Cells.{write_each}
@@ -11,6 +11,7 @@ use Rattle.rules.specs.Board.{slot_cells}
 use Rattle.cells.specs.Out.{stored}
 use Rattle.cells.specs.Listed.{listed}
 use Rattle.builder.specs.Params.{kind_for}
+use Rattle.builder.specs.declared.params.Parameters.{Parameters}
 use Rattle.calls.specs.Places.{position_at}
 use Rattle.findings.specs.Resolved.{source_value}
 use Rattle.slots.specs.declared.slots.Filled.{Filled}
@@ -30,14 +31,14 @@ abbrev pub unfilled_as : ℕ → Value → ℕ → ℕ → rules.Slot
 unfilled_as code default stars named = rules.otherwise (kind_for (act_of code default)) stars named
 
 -- slot k: from P below `next`, else from a name, else by the parameter's code
-unfoldable pub slot_at : List ℕ → List ℕ → List ℕ → List ℕ → List ℕ → Head → ℕ → ℕ → ℕ → ℕ → rules.Slot
-slot_at codes kinds payloads sources cells h next k stars named =
+unfoldable pub slot_at : Parameters → List ℕ → List ℕ → Head → ℕ → ℕ → ℕ → ℕ → rules.Slot
+slot_at p sources cells h next k stars named =
     cond (ltb k next) (rules.taken (read_value (drop (position_at 64 h k) cells)))
-    (rules.taken_or (source_value cells (get_or sources k 0)) (unfilled_as (get_or codes k 0) (value (get_or kinds k 0) (get_or payloads k 0)) stars named))
+    (rules.taken_or (source_value cells (get_or sources k 0)) (unfilled_as (get_or p.codes k 0) (value (get_or p.default_kinds k 0) (get_or p.default_payloads k 0)) stars named))
 
 -- the first `len` slots
-abbrev pub slots_of : List ℕ → List ℕ → List ℕ → List ℕ → List ℕ → Head → ℕ → ℕ → ℕ → ℕ → List rules.Slot
-slots_of codes kinds payloads sources cells h next stars named len = listed (λ k. slot_at codes kinds payloads sources cells h next k stars named) 0 len
+abbrev pub slots_of : Parameters → List ℕ → List ℕ → Head → ℕ → ℕ → ℕ → ℕ → List rules.Slot
+slots_of p sources cells h next stars named len = listed (λ k. slot_at p sources cells h next k stars named) 0 len
 
 -- some slots written from cell 0 on, and counted
 pub record Filling (slots : List rules.Slot) (before after : List ℕ) (r : Filled) : Type 0 where

@@ -1,6 +1,6 @@
 // The board of an accepted call (01, board): the slots, behind them the star remainder's values, then the named remainder's pairs.
 // Reworked from starlark 0.14.2, src/eval/runtime/params/spec.rs (collect_slow), Apache-2.0.
-ghost use Rattle.std.specs.Prelude.{◌≡◌, List, ℕ, ◌+◌, ◌-◌, ◌*◌, ◌≤◌, length};
+ghost use Rattle.std.specs.Prelude.{◌≡◌, List, ℕ, ◌+◌, ◌*◌, ◌≤◌, length};
 ghost use Rattle.rules.specs.Cells.{write_each};
 ghost use Rattle.rules.specs.Board.{named_cells};
 ghost use Rattle.cells.specs.Out.{stored};
@@ -10,35 +10,31 @@ ghost use Rattle.slots.specs.Board.{RestHeld, BoardReady, BoardWritten};
 
 use crate::slots::write_slots;
 use answers::answer::Counts;
+use builder::spec::ParametersSpec;
 use calls::head::{Head, PAIR, VALUE};
 use calls::values::write_values;
 use cells::out::put_inside;
 use cells::record::pair_at;
 use findings::resolve::NAMED;
 
-// All of it, and how much there is of each part. The list is lent by its columns, with how many parameters it has and how many of them are
-// positional.
-pub fn write_board<'a>(
-    codes: &'a [u8; 64],
-    kinds: &'a [u64; 64],
-    payloads: &'a [u64; 64],
-    len: usize,
-    positional: usize,
+// All of it, and how much there is of each part.
+pub fn write_board(
+    list: &ParametersSpec,
     cells: &[u64],
     h: Head,
     next: usize,
-    sources: &'a [usize; 64],
-    rest: &'a [usize; NAMED],
+    sources: &[usize; 64],
+    rest: &[usize; NAMED],
     count: usize,
     board: &mut [u64],
 ) -> Counts
-    requires { BoardReady len positional cells.now (head_of h) rest.now count board.old }
-    ensures { BoardWritten codes.now kinds.now payloads.now len positional cells.now (head_of h) next sources.now rest.now count board.old board.new result }
+    requires { BoardReady list.now cells.now (head_of h) rest.now count board.old }
+    ensures { BoardWritten list.now cells.now (head_of h) next sources.now rest.now count board.old board.new result }
 {
-    let star = left_over(h.p + h.s, positional);
-    let filled = write_slots(
-        codes, kinds, payloads, sources, cells, h, next, len, star, count, board,
-    );
+    let len = list.params.len;
+    let positional = list.indices.num_positional;
+    let star = (h.p + h.s).saturating_sub(positional);
+    let filled = write_slots(&list.params, sources, cells, h, next, star, count, board);
     write_values(cells, h, positional, star, VALUE * len, board);
     write_named(cells, rest, count, VALUE * len + VALUE * star, board);
     Counts {
@@ -49,27 +45,14 @@ pub fn write_board<'a>(
     }
 }
 
-// How many of `total` are left when `room` have found a place.
-fn left_over(total: usize, room: usize) -> usize
-    ensures { result ≡ total - room }
-{
-    if total <= room {
-        return 0;
-    }
-    total - room
-}
-
 // The `count` pairs of the named remainder, stored from cell `at` on.
 pub fn write_named(cells: &[u64], rest: &[usize; NAMED], count: usize, at: usize, board: &mut [u64])
     requires { RestHeld cells.now rest.now count × (at + 4 * count ≤ length board.old) }
     ensures { (area : List ℕ) → board.new ≡ stored board.old at (write_each named_cells (held_names area cells.now rest.now count)) }
 {
-    let mut k = 0;
-    while k < count {
-        let pair = rest[k];
+    for (k, pair) in rest[..count].iter().enumerate() {
         let to = at + PAIR * k;
-        put_inside(board, to, pair_at(cells, pair));
-        put_inside(board, to + VALUE, pair_at(cells, pair + VALUE));
-        k += 1;
+        put_inside(board, to, pair_at(cells, *pair));
+        put_inside(board, to + VALUE, pair_at(cells, *pair + VALUE));
     }
 }

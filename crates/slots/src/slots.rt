@@ -7,6 +7,7 @@ ghost use Rattle.cells.specs.Value.{pair_of};
 ghost use Rattle.calls.specs.Head.{head_of};
 ghost use Rattle.slots.specs.Slots.{slot_in, unfilled_as, slot_at, slots_of, Filling};
 
+use builder::params::Parameters;
 use calls::head::Head;
 use calls::place::position_at;
 use cells::out::put_inside;
@@ -24,18 +25,17 @@ pub enum Slot {
 }
 
 // Slot k: a value of P below `next`, or the value that a name gives it, or what its code says.
-pub fn slot_at<'a>(
-    codes: &'a [u8; 64],
-    kinds: &'a [u64; 64],
-    payloads: &'a [u64; 64],
-    sources: &'a [usize; 64],
+#[tactic(auto, using(crate::proofs::LawsSlots::slot_below, crate::proofs::LawsSlots::slot_named, crate::proofs::LawsSlots::slot_unfilled))]
+pub fn slot_at(
+    params: &Parameters,
+    sources: &[usize; 64],
     cells: &[u64],
     h: Head,
     next: usize,
     k: usize,
 ) -> Slot
     requires { k < 64 }
-    ensures { slot_in result ≡ slot_at codes.now kinds.now payloads.now sources.now cells.now (head_of h) next k }
+    ensures { slot_in result ≡ slot_at params.now sources.now cells.now (head_of h) next k }
 {
     if k < next {
         return Slot::Taken(pair_at(cells, position_at(h, k)));
@@ -44,7 +44,8 @@ pub fn slot_at<'a>(
     if source != 0 {
         return Slot::Taken(pair_at(cells, source));
     }
-    Slot::unfilled(codes[k], Pair::new(kinds[k], payloads[k]))
+    let default = Pair::new(params.default_kinds[k], params.default_payloads[k]);
+    Slot::unfilled(params.codes[k], default)
 }
 
 impl Slot {
@@ -53,8 +54,7 @@ impl Slot {
         ensures { slot_in result ≡ unfilled_as code (pair_of default) }
     {
         match code {
-            1 => Slot::Empty,
-            2 => Slot::Empty,
+            1 | 2 => Slot::Empty,
             3 => Slot::Default(default),
             6 => Slot::Args,
             _ => Slot::KWargs,
@@ -62,13 +62,13 @@ impl Slot {
     }
 
     // Its two cells, where the remainders have `star` and `named` elements.
+    #[tactic(auto, unfolding(rules::specs::Value::no_value))]
     pub fn pair(self, star: usize, named: usize) -> Pair
         ensures { pair_of result ≡ slot_value (slot_in self star named) }
     {
         match self {
             Slot::Empty => Pair::new(0, 0),
-            Slot::Taken(p) => p,
-            Slot::Default(p) => p,
+            Slot::Taken(p) | Slot::Default(p) => p,
             Slot::Args => Pair::new(8, star as u64),
             Slot::KWargs => Pair::new(9, named as u64),
         }
@@ -78,62 +78,45 @@ impl Slot {
     pub fn taken(self) -> usize
         ensures { result ≡ cond (is_taken (slot_in self 0 0)) 1 0 }
     {
-        match self {
-            Slot::Empty => 0,
-            Slot::Taken(_) => 1,
-            Slot::Default(_) => 0,
-            Slot::Args => 0,
-            Slot::KWargs => 0,
-        }
+        usize::from(matches!(self, Slot::Taken(_)))
     }
 
     // 1 if it holds a default, else 0.
     pub fn defaulted(self) -> usize
         ensures { result ≡ cond (is_defaulted (slot_in self 0 0)) 1 0 }
     {
-        match self {
-            Slot::Empty => 0,
-            Slot::Taken(_) => 0,
-            Slot::Default(_) => 1,
-            Slot::Args => 0,
-            Slot::KWargs => 0,
-        }
+        usize::from(matches!(self, Slot::Default(_)))
     }
 }
 
 // How many slots hold a value of the call, and how many a default.
-#[derive(Drop)]
+#[derive(Clone, Copy, Debug, PartialEq, Eq)]
 pub struct Filled {
     pub taken: usize,
     pub defaulted: usize,
 }
 
-// The cells of the first `len` slots, from cell 0 of the board on.
-pub fn write_slots<'a>(
-    codes: &'a [u8; 64],
-    kinds: &'a [u64; 64],
-    payloads: &'a [u64; 64],
-    sources: &'a [usize; 64],
+// The cells of the list's slots, from cell 0 of the board on.
+pub fn write_slots(
+    params: &Parameters,
+    sources: &[usize; 64],
     cells: &[u64],
     h: Head,
     next: usize,
-    len: usize,
     star: usize,
     named: usize,
     board: &mut [u64],
 ) -> Filled
-    requires { (len ≤ 64) × (128 ≤ length board.old) }
-    ensures { Filling (slots_of codes.now kinds.now payloads.now sources.now cells.now (head_of h) next star named len) board.old board.new result }
+    requires { (params.now.len ≤ 64) × (128 ≤ length board.old) }
+    ensures { Filling (slots_of params.now sources.now cells.now (head_of h) next star named params.now.len) board.old board.new result }
 {
     let mut taken = 0;
     let mut defaulted = 0;
-    let mut k = 0;
-    while k < len {
-        let slot = slot_at(codes, kinds, payloads, sources, cells, h, next, k);
+    for k in 0..params.len {
+        let slot = slot_at(params, sources, cells, h, next, k);
         taken += slot.taken();
         defaulted += slot.defaulted();
         put_inside(board, 2 * k, slot.pair(star, named));
-        k += 1;
     }
     Filled { taken, defaulted }
 }

@@ -1,28 +1,26 @@
-use mathlib.Core.Path.{refl}
-use borrow.Author.Rules.{rules}
+-- Answers of `builder::take_steps`.
+use mathlib.Core.Path.{refl, sym, ◌∙◌}
 use Rattle.builder.specs.Params.{step_of}
-use Rattle.builder.proofs.LawsBuild.{left_start, left_stop, left_next, left_end}
+use Rattle.builder.proofs.LawsBuild.{left_start, left_stop, left_next, left_end, stopped, passed}
 use Rattle.builder.proofs.take_steps.Goals as goal
 
 pub loop-i-init : goal.loop-i-init
 loop-i-init c =
-    let a = c.args in (
-      search rules,
-      refl,
-      left_start a.cells.now a.area.now c.step_count-m.result c.new.result c.step_count-m.ensures c.new.ensures,
-    )
+    let a = c.args in
+    record {
+      fine = refl;
+      left = left_start a.cells.now a.area.now c.step_count-m.result c.new.result c.step_count-m.ensures c.new.ensures;
+    }
 
-pub step_at-requires : goal.step_at-requires
-step_at-requires c = rw (← c.step_count-m.ensures) c.loop-i-test.true
-
-pub returns-in_default : goal.returns-in_default
-returns-in_default c =
+pub returns-then-is_err : goal.returns-then-is_err
+returns-then-is_err c =
     let a = c.args in
     let at = c.loop-i in
     let took = c.step_at in
     let step = c.step-stepped in
-    left_stop a.cells.now a.area.now c.step_count-m.result at.stepped.builder at.i at.invariant.2 c.loop-i-test.true
-    (step_of took.result) took.ensures step.result step.ensures _ c.in_default.is
+    let stop = stopped step.result.answer (sym c.is_err.ensures.value ∙ c.if-is_err.true) in
+    left_stop a.cells.now a.area.now c.step_count-m.result at.stepped.builder at.i at.invariant.left c.loop-i-test.true
+    (step_of took.result) took.ensures step.result step.ensures stop.0 stop.1
 
 pub loop-i-preserved : goal.loop-i-preserved
 loop-i-preserved c =
@@ -30,15 +28,15 @@ loop-i-preserved c =
     let at = c.loop-i in
     let took = c.step_at in
     let step = c.step-stepped in
-    let fine = c.in-Fine.is in (
-      search rules,
-      fine,
-      left_next a.cells.now a.area.now c.step_count-m.result at.stepped.builder at.i at.invariant.2 c.loop-i-test.true
-          (step_of took.result) took.ensures step.result step.ensures fine,
-    )
+    let fine = passed step.result.answer (sym c.is_err.ensures.value ∙ c.if-is_err.false) in
+    record {
+      fine = fine;
+      left = left_next a.cells.now a.area.now c.step_count-m.result at.stepped.builder at.i at.invariant.left c.loop-i-test.true
+          (step_of took.result) took.ensures step.result step.ensures fine;
+    }
 
 pub returns : goal.returns
 returns c =
     let a = c.args in
     let at = c.loop-i in
-    left_end a.cells.now a.area.now c.step_count-m.result at.stepped at.i at.invariant.1 at.invariant.2 c.loop-i-test.false
+    left_end a.cells.now a.area.now c.step_count-m.result at.stepped at.i at.invariant.fine at.invariant.left c.loop-i-test.false

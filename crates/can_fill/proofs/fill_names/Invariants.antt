@@ -1,6 +1,5 @@
 -- `can_fill::fill_names` meets its contract: the names before name k are counted, none of them against the call.
 -- Assumes nothing.
-use Prim.Native.Nat.{◌-◌, ◌≤◌}
 use Rattle.builder.specs.Params.{parameters_in}
 use Rattle.calls.specs.Head.{head_of, named_from}
 use Rattle.can_fill.specs.CanFill.{bytes_from}
@@ -9,7 +8,4 @@ use Rattle.can_fill.proofs.fill_names.Given as goal
 
 abbrev pub invariant-loop-k : goal.invariant-loop-k
 invariant-loop-k l =
-    (l.k ≤ l.h.n) × Counted (parameters_in l.spec l.params) l.next (bytes_from l.area l.cells (named_from (head_of l.h)) 0 l.k) l.named
-
-abbrev pub decreases-loop-k : goal.decreases-loop-k
-decreases-loop-k l = l.h.n - l.k
+    Counted (parameters_in l.spec l.params) l.next (bytes_from l.area l.cells (named_from (head_of l.fn.h)) 0 l.k) l.named

@@ -1,8 +1,8 @@
 -- `lookup::search` meets its contract. The outer invariant: the finding is that of the candidates that are left; the inner: the candidate's name is
--- these bytes where the bytes that are left are. The measures are how many candidates, and how many bytes, are left.
+-- these bytes where the bytes that are left are.
 -- Assumes nothing.
 use mathlib.Core.Path.{◌≡◌}
-use Prim.Native.Nat.{◌-◌, ◌≤◌}
+use Prim.Native.Nat.{◌-◌}
 use lib.ListN.{take, drop}
 use Rattle.rules.specs.Text.{same_bytes}
 use Rattle.lookup.specs.Lookup.{fits_at, first_at}
@@ -10,16 +10,8 @@ use Rattle.lookup.proofs.search.Given as goal
 
 abbrev pub invariant-loop-j : goal.invariant-loop-j
 invariant-loop-j l =
-    (l.j ≤ l.size)
-    × (same_bytes l.name (take l.size (drop l.start l.area)) ≡ same_bytes (drop l.j l.name) (drop l.j (take l.size (drop l.start l.area))))
-
-abbrev pub decreases-loop-j : goal.decreases-loop-j
-decreases-loop-j l = l.size - l.j
+    same_bytes l.name (take l.size (drop l.start l.area)) ≡ same_bytes (drop l.j l.name) (drop l.j (take l.size (drop l.start l.area)))
 
 abbrev pub invariant-candidates : goal.invariant-candidates
 invariant-candidates l =
-    (l.i ≤ l.to)
-    × (first_at (fits_at l.area l.codes l.styles l.names l.name) l.from (l.to - l.from) ≡ first_at (fits_at l.area l.codes l.styles l.names l.name) l.i (l.to - l.i))
-
-abbrev pub decreases-candidates : goal.decreases-candidates
-decreases-candidates l = l.to - l.i
+    first_at (fits_at l.area l.params l.name) l.from (l.to - l.from) ≡ first_at (fits_at l.area l.params l.name) l.at (l.to - l.at)

@@ -23,7 +23,7 @@ pub write_items-only-requires : goal.write_items-only-requires
 unfolding comes_before
 write_items-only-requires c =
     let a = c.args in
-    let qs = parameters_in a.area.now a.params in
+    let qs = parameters_in a.area.now a.params.now in
     let slash = c.any_item-slash.result in
     let room = positional_room slash qs a.line a.out.now (c.any_item-slash.ensures a.area.now) c.requires.1 in
     (c.requires.0, refl, three_first (items_of (under pos_only) qs) (Ys slash) (items_of (under pos_or_named) qs) a.line a.out.now room)
@@ -31,7 +31,7 @@ write_items-only-requires c =
 pub write_sign-marked-requires : goal.write_sign-marked-requires
 write_sign-marked-requires c =
     let a = c.args in
-    let qs = parameters_in a.area.now a.params in
+    let qs = parameters_in a.area.now a.params.now in
     let slash = c.any_item-slash.result in
     let room = positional_room slash qs a.line a.out.now (c.any_item-slash.ensures a.area.now) c.requires.1 in
     let one = c.write_items-only in
@@ -41,7 +41,7 @@ pub write_items-requires : goal.write_items-requires
 unfolding comes_before
 write_items-requires c =
     let a = c.args in
-    let qs = parameters_in a.area.now a.params in
+    let qs = parameters_in a.area.now a.params.now in
     let slash = c.any_item-slash.result in
     let room = positional_room slash qs a.line a.out.now (c.any_item-slash.ensures a.area.now) c.requires.1 in
     let one = c.write_items-only in
@@ -55,7 +55,7 @@ write_items-requires c =
 pub returns : goal.returns
 returns c =
     let a = c.args in
-    let qs = parameters_in a.area.now a.params in
+    let qs = parameters_in a.area.now a.params.now in
     let slash = c.any_item-slash.result in
     let room = positional_room slash qs a.line a.out.now (c.any_item-slash.ensures a.area.now) c.requires.1 in
     let one = c.write_items-only in

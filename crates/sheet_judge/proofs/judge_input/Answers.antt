@@ -1,8 +1,10 @@
 -- `sheet_judge::judge_input` meets its contract: each answer by what reading the sheets answered.
 -- Assumes nothing.
 use native.Mathlib.Omega.{arith}
+use Rattle.std.proofs.lemmas.Result.{err_from_is_err_and}
 use Rattle.rules.specs.SheetInput.{input_most}
-use Rattle.sheet_judge.proofs.LawsInput.{judging_long, judging_parameters, parameters_are, judging_call, judging_right}
+use Rattle.sheet_judge.specs.Read.{ParametersAre}
+use Rattle.sheet_judge.proofs.LawsInput.{judging_long, judging_parameters, judging_call, judging_right}
 use Rattle.sheet_judge.proofs.judge_input.Goals as goal
 
 pub returns-then-input-gt-LONGEST : goal.returns-then-input-gt-LONGEST
@@ -14,27 +16,27 @@ read_parameters-requires c = omega arith
 
 pub overflow_add-p : goal.overflow_add-p
 overflow_add-p c =
-    let p = parameters_are c.read_parameters.ensures c.in-Right.is in
+    let p : ParametersAre c.args.input.now c.in_ok-p.p = c.in_ok-p.ensures in
     omega (arith, p.steps.most)
 
 pub read_call-requires : goal.read_call-requires
 unfolding input_most
 read_call-requires c =
-    let p = parameters_are c.read_parameters.ensures c.in-Right.is in
+    let p : ParametersAre c.args.input.now c.in_ok-p.p = c.in_ok-p.ensures in
     (p.steps.within, c.if-input-gt-LONGEST.false, omega (arith, p.steps.most))
 
-pub returns-in-Bad : goal.returns-in-Bad
+pub returns-in_err-p : goal.returns-in_err-p
 unfolding input_most
-returns-in-Bad c = judging_parameters c.if-input-gt-LONGEST.false c.read_parameters.ensures c.in-Bad.is
+returns-in_err-p c =
+    let p = err_from_is_err_and c.from_residual.result c.from_residual.ensures.1 in
+    rw (p.1, p.2) (judging_parameters c.if-input-gt-LONGEST.false _ c.in_err-p.ensures)
 
-pub returns-in-Bad-read_call : goal.returns-in-Bad-read_call
+pub returns-in_err-c : goal.returns-in_err-c
 unfolding input_most
-returns-in-Bad-read_call c =
-    let p = parameters_are c.read_parameters.ensures c.in-Right.is in
-    judging_call c.if-input-gt-LONGEST.false p c.read_call.ensures c.in-Bad-read_call.is
+returns-in_err-c c =
+    let p = err_from_is_err_and c.from_residual-in_err-c.result c.from_residual-in_err-c.ensures.1 in
+    rw (p.1, p.2) (judging_call c.if-input-gt-LONGEST.false c.in_ok-p.ensures _ c.in_err-c.ensures)
 
-pub returns-in-Right-read_call : goal.returns-in-Right-read_call
+pub returns : goal.returns
 unfolding input_most
-returns-in-Right-read_call c =
-    let p = parameters_are c.read_parameters.ensures c.in-Right.is in
-    rw c.places_of.ensures (judging_right c.if-input-gt-LONGEST.false p c.read_call.ensures c.in-Right-read_call.is)
+returns c = rw c.places_of.ensures (judging_right c.if-input-gt-LONGEST.false c.in_ok-p.ensures c.in_ok-c.ensures)

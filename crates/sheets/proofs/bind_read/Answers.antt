@@ -7,28 +7,23 @@ use Rattle.sheets.specs.Bind.{Binding}
 use Rattle.sheets.proofs.LawsBind.{binding_some, binding_within, read_text}
 use Rattle.sheets.proofs.bind_read.Goals as goal
 
-pub returns-in-Written : goal.returns-in-Written
-returns-in-Written c =
+pub unwrap-len-requires : goal.unwrap-len-requires
+unwrap-len-requires c =
     let a = c.args in
-    let after = c.bind-bound.new.out in
-    read_text a.buffer.now a.n a.out.now c.requires after c.in-Written.len
-    (subst (Binding (take a.n a.buffer.now) a.out.now after) c.in-Written.is c.bind-bound.ensures)
-
-pub returns-in-NoRoom : goal.returns-in-NoRoom
-returns-in-NoRoom c =
-    let a = c.args in
-    let after = c.bind-bound.new.out in
-    binding_some (take a.n a.buffer.now) a.out.now c.requires.output after
-    (subst (Binding (take a.n a.buffer.now) a.out.now after) c.in-NoRoom.is c.bind-bound.ensures)
-
-pub slice_bounds-bind-end : goal.slice_bounds-bind-end
-slice_bounds-bind-end c = sym (length-take-le _ _ c.requires.read)
+    binding_some (take a.n a.buffer.now) a.out.now c.requires.output c.bind.new.out c.bind.result c.bind.ensures
 
 pub slice_bounds-result-end : goal.slice_bounds-result-end
 slice_bounds-result-end c =
     let a = c.args in
-    let after = c.bind-bound.new.out in
+    let after = c.bind.new.out in
     sym
     (length-take-le _ _
-    (binding_within (take a.n a.buffer.now) a.out.now c.requires.output after c.in-Written.len
-    (subst (Binding (take a.n a.buffer.now) a.out.now after) c.in-Written.is c.bind-bound.ensures)))
+    (binding_within (take a.n a.buffer.now) a.out.now c.requires.output after c.unwrap-len.result
+    (subst (Binding (take a.n a.buffer.now) a.out.now after) c.unwrap-len.ensures c.bind.ensures)))
+
+pub returns : goal.returns
+returns c =
+    let a = c.args in
+    let after = c.bind.new.out in
+    read_text a.buffer.now a.n a.out.now c.requires after c.unwrap-len.result
+    (subst (Binding (take a.n a.buffer.now) a.out.now after) c.unwrap-len.ensures c.bind.ensures)

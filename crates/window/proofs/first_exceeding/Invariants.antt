@@ -1,13 +1,8 @@
 -- `window::first_exceeding` meets its contract. The loop's invariant is `Kept`: the sum is the one taken afresh of the last w runs so far, and no
--- position so far exceeds the limit. The measure is how many runs are left. That no sum leaves 64 bits is `overflow_add-sum`.
+-- position so far exceeds the limit. That no sum leaves 64 bits is `overflow_add-sum`.
 -- Assumes nothing.
-use Prim.Native.Nat.{◌-◌}
-use lib.ListN.{length}
 use Rattle.window.specs.Exceeded.{Kept}
 use Rattle.window.proofs.first_exceeding.Given as goal
 
 abbrev pub invariant-loop-last : goal.invariant-loop-last
-invariant-loop-last l = Kept l.w l.limit l.minutes l.sum l.first l.last
-
-abbrev pub decreases-loop-last : goal.decreases-loop-last
-decreases-loop-last l = length l.minutes - l.last
+invariant-loop-last l = Kept l.w l.limit l.minutes l.sum l.last

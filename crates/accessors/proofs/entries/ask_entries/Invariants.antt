@@ -3,7 +3,7 @@
 -- Assumes nothing.
 use mathlib.Core.Path.{◌≡◌}
 use mathlib.Core.List.{[]}
-use Prim.Native.Nat.{◌+◌, ◌-◌, ◌≤◌}
+use Prim.Native.Nat.{◌+◌}
 use Rattle.rules.specs.Binding.{ask_entries}
 use Rattle.calls.specs.Head.{head_of}
 use Rattle.calls.specs.Named.{names_in, entries_in}
@@ -13,8 +13,5 @@ use Rattle.accessors.proofs.entries.ask_entries.Given as goal
 
 abbrev pub invariant-loop-k : goal.invariant-loop-k
 invariant-loop-k l =
-    (l.k ≤ l.h.d) × NamesInside l.area l.cells (head_of l.h) (l.h.n + l.k)
+    NamesInside l.area l.cells (head_of l.h) (l.h.n + l.k)
     × (ask_entries [] [] (names_in l.area l.cells (head_of l.h) l.h.n) (entries_in l.area l.cells (head_of l.h) 0 l.h.d) ≡ asked l.area l.cells (head_of l.h) l.k)
-
-abbrev pub decreases-loop-k : goal.decreases-loop-k
-decreases-loop-k l = l.h.d - l.k

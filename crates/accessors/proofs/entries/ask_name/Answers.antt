@@ -2,12 +2,13 @@
 -- Assumes nothing.
 use mathlib.Core.Path.{◌≡◌, sym, ap, ◌∙◌}
 use mathlib.Core.Bool.{cond}
+use Rattle.std.specs.Prelude.{Ok, Err}
 use Rattle.rules.specs.Text.{among}
 use Rattle.rules.specs.Binding.{texts_of}
 use Rattle.cells.specs.Text.{part_at}
 use Rattle.calls.specs.Head.{head_of}
 use Rattle.calls.specs.Named.{names_in}
-use Rattle.accessors.specs.declared.entries.Entries.TheVariants.{Fine, Repeated}
+use Rattle.answers.specs.declared.answer.EntryRefusal.TheVariants.{Repeated}
 use Rattle.accessors.proofs.entries.ask_name.Goals as goal
 use Rattle.accessors.proofs.entries.ask_name.Goals.{After-is_named}
 
@@ -19,7 +20,7 @@ tested c =
     sym (c.is_named.ensures ∙ ap (λ l. among l (texts_of (names_in a.area.now a.cells.now (head_of a.h) a.count))) c.part.ensures.bytes)
 
 pub returns-then-is_named : goal.returns-then-is_named
-returns-then-is_named c = sym (ap (λ b. cond b (Repeated c.args.payload) Fine) (tested (goal.at.returns-then-is_named c).After-is_named ∙ c.if-is_named.true))
+returns-then-is_named c = sym (ap (λ b. cond b (Err (Repeated c.args.payload)) (Ok tt)) (tested (goal.at.returns-then-is_named c).After-is_named ∙ c.if-is_named.true))
 
 pub returns : goal.returns
-returns c = sym (ap (λ b. cond b (Repeated c.args.payload) Fine) (tested (goal.at.returns c).After-is_named ∙ c.if-is_named.false))
+returns c = sym (ap (λ b. cond b (Err (Repeated c.args.payload)) (Ok tt)) (tested (goal.at.returns c).After-is_named ∙ c.if-is_named.false))

@@ -1,49 +1,24 @@
-use mathlib.Core.Path.{◌≡◌, sym, ap, ◌∙◌}
+-- `accessors::entries::keys_are_texts` meets its contract: each entry's key is asked the same. Assumes nothing.
+use mathlib.Core.Path.{refl, sym, ap, ◌∙◌}
 use Prim.Native.Nat.{◌+◌}
-use native.Mathlib.Nat.{sub-zero}
+use native.Mathlib.Nat.{add-zero}
 use native.Mathlib.Omega.{arith}
-use borrow.Author.Tests.{not-true, not-false}
-use Rattle.rules.specs.Listing.{all}
-use Rattle.rules.specs.CallRecord.{key_in}
-use Rattle.rules.specs.Accessors.{is_word}
-use Rattle.cells.specs.Record.{pair_at}
-use Rattle.cells.proofs.LawsListed.{listed_end, all_stop, all_next}
-use Rattle.calls.specs.Head.{head_of}
-use Rattle.calls.specs.Named.{pair_entry, entries_in}
-use Rattle.accessors.proofs.LawsEntries.{pair_key}
 use borrow.Author.Rules.{rules}
+use borrow.Author.Tests.{tests}
+use Rattle.std.proofs.lemmas.Iterator.{YieldsList-from_range}
+use Rattle.std.proofs.lemmas.Iterator.Search.{all_from_yields_List}
+use Rattle.std.specs.List.{list_all, range_with_len}
+use Rattle.calls.specs.Head.{head_of}
+use Rattle.accessors.proofs.LawsEntries.{has_text, keys_all}
 use Rattle.accessors.proofs.entries.keys_are_texts.Goals as goal
-use Rattle.accessors.proofs.entries.keys_are_texts.Goals.{After-is_text}
-
-pub loop-k-init : goal.loop-k-init
-loop-k-init c =
-    let a = c.args in
-    (search rules, ap (λ n. all (λ e. is_word e.key) (entries_in a.area.now a.cells.now (head_of a.h) 0 n)) (sym (sub-zero a.h.d)))
 
 pub overflow_add-h : goal.overflow_add-h
-overflow_add-h c =
-    omega (arith, c.requires.few.few_n, c.requires.few.few_d)
-
-pub is_text-requires : goal.is_text-requires
-is_text-requires c =
-    rw c.named_at.ensures (c.requires.formed c.loop-k.k c.loop-k-test.true)
-
--- what was answered of entry k
-text_of : (c : After-is_text) → let a = c.args in
-    is_word (pair_entry a.area.now a.cells.now (head_of a.h) (a.h.n + c.loop-k.k)).key ≡ c.is_text.result
-text_of c =
-    let a = c.args in
-    ap is_word (pair_key a.area.now a.cells.now (head_of a.h) (a.h.n + c.loop-k.k))
-    ∙ sym (c.is_text.ensures ∙ ap (λ n. is_word (key_in a.area.now (pair_at a.cells.now n))) c.named_at.ensures)
-
-pub returns-then-not-is_text : goal.returns-then-not-is_text
-returns-then-not-is_text c =
-    sym (c.loop-k.invariant.1 ∙ all_stop _ _ c.loop-k.k _ c.loop-k-test.true (text_of (goal.at.returns-then-not-is_text c).After-is_text ∙ not-true _ c.if-not-is_text.true-raw))
-
-pub loop-k-preserved : goal.loop-k-preserved
-loop-k-preserved c =
-    (search rules, c.loop-k.invariant.1 ∙ all_next _ _ c.loop-k.k _ c.loop-k-test.true (text_of (goal.at.loop-k-preserved c).After-is_text ∙ not-false _ c.if-not-is_text.false-raw))
+overflow_add-h c = omega (arith, c.requires.few.few_n, c.requires.few.few_d)
 
 pub returns : goal.returns
 returns c =
-    sym (c.loop-k.invariant.1 ∙ ap (all (λ e. is_word e.key)) (listed_end _ c.loop-k.k _ c.loop-k-test.false))
+    let a = c.args in
+    all_from_yields_List (has_text a.area.now a.cells.now (head_of a.h)) _ _ _ c.all.ensures.ran
+    (YieldsList-from_range a.h.n (a.h.n + a.h.d) a.h.d refl (omega arith)) (λ x b q k. search (rules, tests))
+    ∙ ap (λ n. list_all (has_text a.area.now a.cells.now (head_of a.h)) (range_with_len n a.h.d)) (sym (add-zero a.h.n))
+    ∙ keys_all a.area.now a.cells.now (head_of a.h) 0 a.h.d (λ j b. c.requires.formed j (omega arith))

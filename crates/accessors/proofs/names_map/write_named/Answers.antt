@@ -1,4 +1,4 @@
-use mathlib.Core.Path.{◌≡◌, refl, sym, ap, ap₂, ◌∙◌}
+use mathlib.Core.Path.{◌≡◌, sym, ap, ap₂, ◌∙◌}
 use Prim.Native.Nat.{◌+◌, ◌*◌}
 use native.Mathlib.Omega.{arith}
 use Rattle.rules.specs.Cells.{write_each}
@@ -10,12 +10,10 @@ use Rattle.cells.proofs.LawsOut.{stored_none}
 use Rattle.calls.specs.Head.{head_of}
 use Rattle.calls.specs.Named.{names_in}
 use Rattle.accessors.proofs.LawsNames.{named_more}
-use borrow.Author.Rules.{rules}
 use Rattle.accessors.proofs.names_map.write_named.Goals as goal
 
 pub loop-k-init : goal.loop-k-init
-loop-k-init c =
-    (search rules, refl, λ area. sym (stored_none c.args.out.now 0 (omega arith)))
+loop-k-init c = λ area. sym (stored_none c.args.out.now 0 (omega arith))
 
 pub overflow_add-pair : goal.overflow_add-pair
 overflow_add-pair c =
@@ -24,23 +22,16 @@ overflow_add-pair c =
 pub loop-k-preserved : goal.loop-k-preserved
 loop-k-preserved c =
     let a = c.args in
-    let k = c.loop-k.k in (
-      search rules,
-      c.put-in-loop-k.auto.out ∙ c.put.auto.out ∙ c.loop-k.invariant.1,
-      λ area.
-          c.put-in-loop-k.ensures
-          ∙ ap₂ (λ b v. stored b (4 * k + 2) (value_cells v))
-          (c.put.ensures ∙ ap (λ v. stored c.loop-k.out (4 * k) (value_cells v)) (c.pair_at.ensures ∙ ap (pair_at a.cells.now) c.named_at-pair.ensures))
-          (c.pair_at-in-loop-k.ensures ∙ ap (λ p. pair_at a.cells.now (p + 2)) c.named_at-pair.ensures)
-          ∙ named_more area a.cells.now (head_of a.h) k a.out.now c.loop-k.out (c.requires.0.text k c.loop-k-test.true) (omega (arith, c.requires.1, c.loop-k-test.true)) (c.loop-k.invariant.2 area) c.loop-k.invariant.1,
-    )
-
-pub shape_of-out : goal.shape_of-out
-shape_of-out c = c.loop-k.invariant.1
+    let k = c.loop-k.k in
+    λ area.
+    c.put-in-loop-k.ensures
+    ∙ ap₂ (λ b v. stored b (4 * k + 2) (value_cells v))
+    (c.put.ensures ∙ ap (λ v. stored c.loop-k.out (4 * k) (value_cells v)) (c.pair_at.ensures ∙ ap (pair_at a.cells.now) c.named_at-pair.ensures))
+    (c.pair_at-in-loop-k.ensures ∙ ap (λ p. pair_at a.cells.now (p + 2)) c.named_at-pair.ensures)
+    ∙ named_more area a.cells.now (head_of a.h) k a.out.now c.loop-k.out (c.requires.0.text k c.loop-k-test.true) (omega (arith, c.requires.1, c.loop-k-test.true)) (c.loop-k.invariant area) c.loop-k.auto.out
 
 pub returns : goal.returns
 returns c =
-    let at = c.loop-k in
     let a = c.args in
-    let whole : at.k ≡ a.count = omega (arith, at.invariant.0, c.loop-k-test.false) in
-    λ area. at.invariant.2 area ∙ ap (λ n. stored a.out.now 0 (write_each named_cells (names_in area a.cells.now (head_of a.h) n))) whole
+    let whole : c.loop-k.k ≡ a.count = omega (arith, c.loop-k-test.false) in
+    λ area. c.loop-k.invariant area ∙ ap (λ n. stored a.out.now 0 (write_each named_cells (names_in area a.cells.now (head_of a.h) n))) whole

@@ -2,8 +2,7 @@
 -- Assumes nothing.
 use mathlib.Core.Path.{◌≡◌}
 use mathlib.Core.List.{List}
-use Prim.Native.Nat.{ℕ, ◌-◌, ◌≤◌}
-use lib.ListN.{length}
+use Prim.Native.Nat.{ℕ}
 use Rattle.rules.specs.Cells.{write_each}
 use Rattle.rules.specs.Board.{named_cells}
 use Rattle.cells.specs.Out.{stored}
@@ -13,7 +12,4 @@ use Rattle.accessors.proofs.names_map.write_named.Given as goal
 
 abbrev pub invariant-loop-k : goal.invariant-loop-k
 invariant-loop-k l =
-    (l.k ≤ l.count) × (length l.out ≡ length l.initial.out) × ((area : List ℕ) → l.out ≡ stored l.initial.out 0 (write_each named_cells (names_in area l.cells (head_of l.h) l.k)))
-
-abbrev pub decreases-loop-k : goal.decreases-loop-k
-decreases-loop-k l = l.count - l.k
+    (area : List ℕ) → l.out ≡ stored l.initial.out 0 (write_each named_cells (names_in area l.cells (head_of l.h) l.k))

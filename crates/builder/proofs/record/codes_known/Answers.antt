@@ -1,23 +1,21 @@
-use borrow.Author.Rules.{rules}
+-- `builder::record::codes_known` meets its contract: each step is asked the same. Assumes nothing.
+use mathlib.Core.Path.{◌∙◌}
+use native.Mathlib.Omega.{arith}
+use Rattle.std.proofs.Common.{rules, tests}
+use Rattle.std.proofs.lemmas.Iterator.{YieldsList-from_range}
+use Rattle.std.proofs.lemmas.Iterator.Search.{all_from_yields_List}
+use Rattle.rules.specs.ParameterRecord.{step_count}
 use Rattle.rules.specs.Parameters.{act}
 use Rattle.rules.specs.ParameterQuestions.{is_code, codes_known}
-use Rattle.builder.proofs.LawsRecord.{each_start, each_stop, each_next, each_end}
+use Rattle.builder.specs.Record.{step_at}
+use Rattle.builder.proofs.LawsRecord.{all_steps}
 use Rattle.builder.proofs.record.codes_known.Goals as goal
-
-pub loop-i-init : goal.loop-i-init
-unfolding codes_known
-loop-i-init c = (search rules, each_start (λ t. is_code (act t)) c.args.cells.now c.step_count-m.result c.step_count-m.ensures)
-
-pub step_at-requires : goal.step_at-requires
-step_at-requires c = rw (← c.step_count-m.ensures) c.loop-i-test.true
-
-pub returns-then-not-is_code : goal.returns-then-not-is_code
-unfolding codes_known
-returns-then-not-is_code c = each_stop (λ t. is_code (act t)) c.args.cells.now c.step_count-m.result c.loop-i.i c.loop-i.invariant.1 c.loop-i-test.true c.step_at.ensures c.is_code.ensures c.if-not-is_code.true
-
-pub loop-i-preserved : goal.loop-i-preserved
-loop-i-preserved c = (search rules, each_next (λ t. is_code (act t)) c.args.cells.now c.step_count-m.result c.loop-i.i c.loop-i.invariant.1 c.loop-i-test.true c.step_at.ensures c.is_code.ensures c.if-not-is_code.false)
 
 pub returns : goal.returns
 unfolding codes_known
-returns c = each_end (λ t. is_code (act t)) c.args.cells.now c.step_count-m.result c.loop-i.i c.loop-i.invariant.1 c.loop-i-test.false
+returns c =
+    let cells = c.args.cells.now in
+    all_from_yields_List (λ k. is_code (act (step_at cells k))) _ _ _ c.all.ensures.ran
+    (YieldsList-from_range 0 (step_count cells) (step_count cells) (cc) (omega arith))
+    (λ x b q k. search (rules, tests))
+    ∙ all_steps (λ t. is_code (act t)) cells

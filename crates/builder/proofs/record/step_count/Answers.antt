@@ -4,10 +4,6 @@ use native.Mathlib.Omega.{arith}
 use Rattle.rules.specs.ParameterRecord.{step_count, step_width}
 use Rattle.builder.proofs.record.step_count.Goals as goal
 
-pub returns-then-cells-eq0 : goal.returns-then-cells-eq0
-unfolding step_count step_width
-returns-then-cells-eq0 c = omega arith
-
 pub returns : goal.returns
 unfolding step_count step_width
 returns c = omega arith

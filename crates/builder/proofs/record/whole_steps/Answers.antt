@@ -20,10 +20,10 @@ pub returns-then-cells-m : goal.returns-then-cells-m
 unfolding whole_steps parameter_length step_width
 returns-then-cells-m c =
     let cells = c.args.cells.now in
-    rw (← c.step_count-m.ensures, ne_eqb (length cells) (1 + 4 * c.step_count-m.result) c.if-cells-m.true)
+    rw (← c.step_count-m.ensures, eq-eqb (length cells) (1 + 4 * c.step_count-m.result) c.if-cells-m.true)
 
-pub returns : goal.returns
+pub returns-else-cells-m : goal.returns-else-cells-m
 unfolding whole_steps parameter_length step_width
-returns c =
+returns-else-cells-m c =
     let cells = c.args.cells.now in
-    rw (← c.step_count-m.ensures, eq-eqb (length cells) (1 + 4 * c.step_count-m.result) c.if-cells-m.false)
+    rw (← c.step_count-m.ensures, ne_eqb (length cells) (1 + 4 * c.step_count-m.result) c.if-cells-m.false)

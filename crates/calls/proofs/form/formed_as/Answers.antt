@@ -1,26 +1,23 @@
 -- `calls::form::formed_as` meets its contract: what is asked for is there if reading gave something.
 -- Assumes nothing.
-use mathlib.Core.Path.{sym, ◌∙◌}
-use Rattle.calls.proofs.LawsForm.{argument_formed, name_formed, key_formed}
+use Rattle.std.specs.Option.{is_some}
+use mathlib.Core.Path.{sym, ap, ◌∙◌}
+use Rattle.calls.specs.Runs.{formed_as}
+use Rattle.cells.specs.Value.{value}
+use Rattle.calls.proofs.LawsForm.{argument_read, name_read, key_read}
 use Rattle.calls.proofs.form.formed_as.Goals as goal
 
-pub returns-in-Is : goal.returns-in-Is
-returns-in-Is c = argument_formed _ _ _ _ c.in-Argument.is _ (sym c.in-Is.is ∙ c.read_argument.ensures)
+pub returns-in-Argument : goal.returns-in-Argument
+returns-in-Argument c =
+    c.is_some.ensures ∙ ap is_some c.read_argument.ensures ∙ argument_read _ _ _
+    ∙ ap (λ r. formed_as r c.args.area.now (value c.args.kind c.args.payload)) (sym c.in-Argument.is)
 
-pub returns-in-Not : goal.returns-in-Not
-returns-in-Not c = argument_formed _ _ _ _ c.in-Argument.is _ (sym c.in-Not.is ∙ c.read_argument.ensures)
+pub returns-in-Name : goal.returns-in-Name
+returns-in-Name c =
+    c.is_some-in-Name.ensures ∙ ap is_some c.read_name.ensures ∙ name_read _ _ _
+    ∙ ap (λ r. formed_as r c.args.area.now (value c.args.kind c.args.payload)) (sym c.in-Name.is)
 
-pub returns-in-Is-read_name : goal.returns-in-Is-read_name
-returns-in-Is-read_name c = name_formed _ _ _ _ c.in-Name.is _ (sym c.in-Is-read_name.is ∙ c.read_name.ensures)
-
-pub returns-in-Not-read_name : goal.returns-in-Not-read_name
-returns-in-Not-read_name c = name_formed _ _ _ _ c.in-Name.is _ (sym c.in-Not-read_name.is ∙ c.read_name.ensures)
-
-pub returns-in-Word : goal.returns-in-Word
-returns-in-Word c = key_formed _ _ _ _ c.in-Key.is _ (sym c.in-Word.is ∙ c.read_key.ensures)
-
-pub returns-in-Number : goal.returns-in-Number
-returns-in-Number c = key_formed _ _ _ _ c.in-Key.is _ (sym c.in-Number.is ∙ c.read_key.ensures)
-
-pub returns-in-Not-read_key : goal.returns-in-Not-read_key
-returns-in-Not-read_key c = key_formed _ _ _ _ c.in-Key.is _ (sym c.in-Not-read_key.is ∙ c.read_key.ensures)
+pub returns-in-Key : goal.returns-in-Key
+returns-in-Key c =
+    c.is_some-in-Key.ensures ∙ ap is_some c.read_key.ensures ∙ key_read _ _ _
+    ∙ ap (λ r. formed_as r c.args.area.now (value c.args.kind c.args.payload)) (sym c.in-Key.is)

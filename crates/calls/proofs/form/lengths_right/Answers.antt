@@ -2,34 +2,33 @@
 -- Assumes nothing.
 use mathlib.Core.Path.{sym, ◌∙◌}
 use native.Mathlib.Omega.{arith}
-use borrow.Author.Tests.{not-true, not-false}
 use Rattle.rules.specs.Value.{value_width}
 use Rattle.rules.specs.CallRecord.{head_width, pair_width, call_length}
 use Rattle.calls.specs.Head.{head_of, Few, named_from, items_from, entries_from}
 use Rattle.calls.proofs.LawsCall.{few_bounds, lengths_by}
 use Rattle.calls.proofs.form.lengths_right.Goals as goal
+use Rattle.calls.proofs.form.lengths_right.Goals.{Then-few}
 
-pub returns-then-not-few : goal.returns-then-not-few
-returns-then-not-few c =
-    sym (lengths_by _ _ c.read_head-h.ensures 64 ∙ rw (sym c.few.ensures ∙ not-true _ c.if-not-few.true-raw))
+few : (c : Then-few) → Few 64 (head_of c.read_head-h.result)
+few c = few_bounds 64 _ (sym c.few.ensures ∙ c.if-few.true)
 
 pub entries_from-requires : goal.entries_from-requires
-entries_from-requires c = few_bounds 64 (head_of c.read_head-h.result) (sym c.few.ensures ∙ not-false _ c.if-not-few.false-raw)
+entries_from-requires c = few (goal.at.entries_from-requires c).Then-few
 
 pub overflow_mul-result : goal.overflow_mul-result
-overflow_mul-result c =
-    let few : Few 64 (head_of c.read_head-h.result) = few_bounds 64 _ (sym c.few.ensures ∙ not-false _ c.if-not-few.false-raw) in
-    omega arith
+overflow_mul-result c = omega (arith, few (goal.at.overflow_mul-result c).Then-few)
 
 pub overflow_add-result : goal.overflow_add-result
 unfolding entries_from items_from named_from head_width value_width pair_width
-overflow_add-result c =
-    let few : Few 64 (head_of c.read_head-h.result) = few_bounds 64 _ (sym c.few.ensures ∙ not-false _ c.if-not-few.false-raw) in
-    omega (arith, c.entries_from.ensures)
+overflow_add-result c = omega (arith, few (goal.at.overflow_add-result c).Then-few, c.entries_from.ensures)
 
-pub returns : goal.returns
+pub returns-then-few : goal.returns-then-few
 unfolding call_length entries_from items_from named_from head_width value_width pair_width
-returns c =
+returns-then-few c =
     sym
     (lengths_by _ _ c.read_head-h.ensures 64
-    ∙ rw (sym c.few.ensures ∙ not-false _ c.if-not-few.false-raw, c.entries_from.ensures))
+    ∙ rw (sym c.few.ensures ∙ c.if-few.true, c.entries_from.ensures))
+
+pub returns-else-few : goal.returns-else-few
+returns-else-few c =
+    c.if-few.false ∙ sym (lengths_by _ _ c.read_head-h.ensures 64 ∙ rw (sym c.few.ensures ∙ c.if-few.false))

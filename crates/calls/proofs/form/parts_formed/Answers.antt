@@ -1,14 +1,16 @@
 -- `calls::form::parts_formed` meets its contract: question 11 by the head that was read, part by part.
 -- Assumes nothing.
-use mathlib.Core.Path.{sym, ◌∙◌}
+use mathlib.Core.Path.{◌≡◌, sym, ap, ◌∙◌}
+use mathlib.Core.Bool.{◌&&◌}
 use native.Mathlib.Omega.{arith}
-use borrow.Author.Tests.{not-true, not-false}
 use Rattle.rules.specs.Value.{value_width}
 use Rattle.rules.specs.CallRecord.{head_width}
-use Rattle.calls.specs.Head.{head_of, Few}
+use Rattle.calls.specs.Head.{head_of, Few, named_from, items_from, entries_from}
+use Rattle.calls.specs.Runs.{run_formed, pairs_formed}
+use Rattle.calls.specs.declared.form.Role.TheVariants as role
 use Rattle.calls.proofs.LawsCall.{lengths_few, positionals_within, named_within, items_within, entries_within, parts_by}
 use Rattle.calls.proofs.form.parts_formed.Goals as goal
-use Rattle.calls.proofs.form.parts_formed.Goals.{After-read_head-h}
+use Rattle.calls.proofs.form.parts_formed.Goals.{After-read_head-h, Joined-run_formed, Joined-pairs_formed, then-run_formed, else-run_formed, then-pairs_formed, else-pairs_formed}
 
 few : (c : After-read_head-h) → Few 64 (head_of c.read_head-h.result)
 few c = lengths_few _ _ c.read_head-h.ensures 64 c.requires
@@ -26,59 +28,61 @@ pub run_formed-requires : goal.run_formed-requires
 unfolding head_width value_width
 run_formed-requires c = λ k below. omega (arith, positionals_within _ _ c.read_head-h.ensures 64 c.requires)
 
-pub returns-then-not-run_formed : goal.returns-then-not-run_formed
-unfolding head_width value_width
-returns-then-not-run_formed c =
-    sym (parts_by _ _ c.read_head-h.ensures _ ∙ rw (sym c.run_formed.ensures ∙ not-true _ c.if-not-run_formed.true-raw))
-
 pub pairs_formed-requires : goal.pairs_formed-requires
 pairs_formed-requires c =
     rw c.named_from.ensures (named_within _ _ c.read_head-h.ensures 64 c.requires)
 
-pub returns-then-not-pairs_formed : goal.returns-then-not-pairs_formed
-unfolding head_width value_width
-returns-then-not-pairs_formed c =
-    sym
-    (parts_by _ _ c.read_head-h.ensures _
-    ∙ rw (
-      sym c.named_from.ensures,
-      sym c.run_formed.ensures ∙ not-false _ c.if-not-run_formed.false-raw,
-      sym c.pairs_formed.ensures ∙ not-true _ c.if-not-pairs_formed.true-raw,
-    ))
-
-pub run_formed-requires-2 : goal.run_formed-requires-2
+pub run_formed-requires-then-pairs_formed : goal.run_formed-requires-then-pairs_formed
 unfolding value_width
-run_formed-requires-2 c =
+run_formed-requires-then-pairs_formed c =
     λ k below. omega (arith, c.items_from.ensures, items_within _ _ c.read_head-h.ensures 64 c.requires)
 
-pub returns-then-not-run_formed-2 : goal.returns-then-not-run_formed-2
-unfolding head_width value_width
-returns-then-not-run_formed-2 c =
-    sym
-    (parts_by _ _ c.read_head-h.ensures _
-    ∙ rw (
-      sym c.named_from.ensures,
-      sym c.items_from.ensures,
-      sym c.run_formed.ensures ∙ not-false _ c.if-not-run_formed.false-raw,
-      sym c.pairs_formed.ensures ∙ not-false _ c.if-not-pairs_formed.false-raw,
-      sym c.run_formed-2.ensures ∙ not-true _ c.if-not-run_formed-2.true-raw,
-    ))
-
-pub pairs_formed-requires-2 : goal.pairs_formed-requires-2
-pairs_formed-requires-2 c =
+pub pairs_formed-requires-then-run_formed-2 : goal.pairs_formed-requires-then-run_formed-2
+pairs_formed-requires-then-run_formed-2 c =
     rw c.entries_from.ensures (entries_within _ _ c.read_head-h.ensures 64 c.requires)
 
-pub returns : goal.returns
+-- what the first two parts answer together, and the first three
+two : (c : Joined-run_formed) → let a = c.args in let h = head_of c.read_head-h.result in
+    c.if-run_formed.value
+    ≡ (run_formed role.Argument a.area.now a.cells.now head_width value_width h.p && pairs_formed role.Name a.area.now a.cells.now (named_from h) h.n)
 unfolding head_width value_width
-returns c =
-    c.pairs_formed-2.ensures
-    ∙ sym
-    (parts_by _ _ c.read_head-h.ensures _
-    ∙ rw (
-      sym c.named_from.ensures,
-      sym c.items_from.ensures,
-      sym c.entries_from.ensures,
-      sym c.run_formed.ensures ∙ not-false _ c.if-not-run_formed.false-raw,
-      sym c.pairs_formed.ensures ∙ not-false _ c.if-not-pairs_formed.false-raw,
-      sym c.run_formed-2.ensures ∙ not-false _ c.if-not-run_formed-2.false-raw,
-    ))
+two c =
+    let a = c.args in
+    let h = head_of c.read_head-h.result in
+    elim c.if-run_formed.branch [
+      | then-run_formed w ↦
+          w.value-is ∙ w.pairs_formed.ensures
+          ∙ ap (λ at. pairs_formed role.Name a.area.now a.cells.now at h.n) w.named_from.ensures
+          ∙ sym (ap (λ b. b && pairs_formed role.Name a.area.now a.cells.now (named_from h) h.n) (sym c.run_formed.ensures ∙ w.if-run_formed.true))
+      | else-run_formed w ↦
+          w.value-is ∙ w.if-run_formed.false
+          ∙ sym (ap (λ b. b && pairs_formed role.Name a.area.now a.cells.now (named_from h) h.n) (sym c.run_formed.ensures ∙ w.if-run_formed.false))
+    ]
+
+three : (c : Joined-pairs_formed) → let a = c.args in let h = head_of c.read_head-h.result in
+    c.if-pairs_formed.value ≡ (c.if-run_formed.value && run_formed role.Argument a.area.now a.cells.now (items_from h) value_width h.s)
+unfolding value_width
+three c =
+    let a = c.args in
+    let h = head_of c.read_head-h.result in
+    elim c.if-pairs_formed.branch [
+      | then-pairs_formed w ↦
+          w.value-is ∙ w.run_formed-then-pairs_formed.ensures
+          ∙ ap (λ at. run_formed role.Argument a.area.now a.cells.now at 2 h.s) w.items_from.ensures
+          ∙ sym (ap (λ b. b && run_formed role.Argument a.area.now a.cells.now (items_from h) 2 h.s) w.if-pairs_formed.true)
+      | else-pairs_formed w ↦
+          w.value-is ∙ w.if-pairs_formed.false
+          ∙ sym (ap (λ b. b && run_formed role.Argument a.area.now a.cells.now (items_from h) 2 h.s) w.if-pairs_formed.false)
+    ]
+
+pub returns-then-run_formed-2 : goal.returns-then-run_formed-2
+returns-then-run_formed-2 c =
+    let places = goal.at.returns-then-run_formed-2 c in
+    c.pairs_formed-then-run_formed-2.ensures
+    ∙ sym (parts_by _ _ c.read_head-h.ensures _ ∙ rw (← two places.Joined-run_formed, ← three places.Joined-pairs_formed, c.if-run_formed-2.true, c.entries_from.ensures))
+
+pub returns-else-run_formed-2 : goal.returns-else-run_formed-2
+returns-else-run_formed-2 c =
+    let places = goal.at.returns-else-run_formed-2 c in
+    c.if-run_formed-2.false
+    ∙ sym (parts_by _ _ c.read_head-h.ensures _ ∙ rw (← two places.Joined-run_formed, ← three places.Joined-pairs_formed, c.if-run_formed-2.false))

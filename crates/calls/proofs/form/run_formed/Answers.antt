@@ -1,32 +1,27 @@
-use mathlib.Core.Path.{sym, ◌∙◌}
-use Prim.Native.Nat.{◌+◌, ◌*◌, ◌≤◌}
-use lib.ListN.{length}
-use borrow.Author.Tests.{not-true, not-false}
-use Rattle.calls.proofs.LawsForm.{run_start, run_end, run_passes, run_fails}
+-- `calls::form::run_formed` meets its contract: what the library tests of each number is whether the two cells there are what is asked.
+-- Assumes nothing.
+use Rattle.std.proofs.lemmas.Iterator.{YieldsList-from_range, cases_from_all}
+use mathlib.Core.Path.{◌≡◌, refl}
+use mathlib.Core.Bool.{Bool, true, false}
+use Prim.Native.Nat.{ℕ, ◌+◌, ◌*◌}
+use native.Mathlib.Nat.{sub-zero}
+use borrow.Author.Rules.{rules}
+use borrow.Author.Tests.{tests}
+use lib.ListN.{drop, get_or}
+use Rattle.rules.specs.Cells.{read_each}
+use Rattle.rules.specs.Value.{no_value, read_value}
+use Rattle.cells.specs.Value.{value}
+use Rattle.calls.specs.Runs.{formed_as}
+use Rattle.calls.proofs.LawsEach.{each_length}
+use Rattle.calls.proofs.LawsRange.{all_by}
+use Rattle.calls.proofs.LawsForm.{run_at}
 use Rattle.calls.proofs.form.run_formed.Goals as goal
-use Rattle.calls.proofs.form.run_formed.Goals.{In-loop-k}
-
-pub loop-k-init : goal.loop-k-init
-loop-k-init c = let a = c.args in run_start a.role a.area.now a.cells.now a.from a.width a.count
-
--- the two cells lie inside
-room : (c : In-loop-k) → let a = c.args in a.from + a.width * c.loop-k.k + 2 ≤ length a.cells.now
-room c = c.requires c.loop-k.k c.loop-k-test.true
-
-pub returns-then-not-formed_as : goal.returns-then-not-formed_as
-returns-then-not-formed_as c =
-    let a = c.args in
-    sym
-    (c.loop-k.invariant
-    ∙ run_fails a.role a.area.now a.cells.now a.from a.width a.count c.loop-k.k c.loop-k-test.true (sym c.formed_as.ensures ∙ not-true _ c.if-not-formed_as.true-raw))
-
-pub loop-k-preserved : goal.loop-k-preserved
-loop-k-preserved c =
-    let a = c.args in
-    c.loop-k.invariant
-    ∙ run_passes a.role a.area.now a.cells.now a.from a.width a.count c.loop-k.k c.loop-k-test.true (sym c.formed_as.ensures ∙ not-false _ c.if-not-formed_as.false-raw)
 
 pub returns : goal.returns
 returns c =
     let a = c.args in
-    sym (c.loop-k.invariant ∙ run_end a.role a.area.now a.cells.now a.from a.width a.count c.loop-k.k c.loop-k-test.false)
+    let asked : ℕ → Bool = λ k. formed_as a.role a.area.now (value (get_or a.cells.now (a.from + a.width * k) 0) (get_or a.cells.now (a.from + a.width * k + 1) 0)) in
+    all_by (formed_as a.role a.area.now) no_value (read_each a.width read_value a.count (drop a.from a.cells.now)) a.count (each_length a.width read_value a.count (drop a.from a.cells.now)) asked
+    (run_at a.role a.area.now a.cells.now a.from a.width a.count)
+    c.all.result
+    (cases_from_all _ _ c.all.result (λ k. asked k ≡ true) (λ k. asked k ≡ false) c.all.ensures.ran (YieldsList-from_range 0 a.count a.count refl (sub-zero a.count)) (λ x q k. search (rules, tests)) (λ x q k. search (rules, tests)))

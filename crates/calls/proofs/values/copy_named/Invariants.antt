@@ -1,8 +1,7 @@
--- `calls::values::copy_named` meets its contract. The loop's invariant: the values of the first k pairs are stored. The measure is how many
--- are left. Assumes nothing.
+-- `calls::values::copy_named` meets its contract. The loop's invariant: the values of the first k pairs are stored.
+-- Assumes nothing.
 use mathlib.Core.Path.{◌≡◌}
-use Prim.Native.Nat.{◌-◌, ◌+◌, ◌*◌, ◌≤◌}
-use lib.ListN.{length}
+use Prim.Native.Nat.{◌+◌, ◌*◌}
 use Rattle.rules.specs.Cells.{write_each}
 use Rattle.rules.specs.Value.{value_cells}
 use Rattle.cells.specs.Out.{stored}
@@ -11,7 +10,4 @@ use Rattle.cells.specs.Listed.{listed}
 use Rattle.calls.proofs.values.copy_named.Given as goal
 
 abbrev pub invariant-loop-k : goal.invariant-loop-k
-invariant-loop-k l = (l.k ≤ l.count) × (length l.board ≡ length l.initial.board) × (l.board ≡ stored l.initial.board l.at (write_each value_cells (listed (λ j. pair_at l.cells (l.from + 4 * j + 2)) 0 l.k)))
-
-abbrev pub decreases-loop-k : goal.decreases-loop-k
-decreases-loop-k l = l.count - l.k
+invariant-loop-k l = l.board ≡ stored l.initial.board l.at (write_each value_cells (listed (λ j. pair_at l.cells (l.from + 4 * j + 2)) 0 l.k))

@@ -1,8 +1,6 @@
--- `calls::values::write_values` meets its contract. The loop's invariant: the first k values are stored. The measure is how many are left.
+-- `calls::values::write_values` meets its contract. The loop's invariant: the first k values are stored.
 -- Assumes nothing.
 use mathlib.Core.Path.{◌≡◌}
-use Prim.Native.Nat.{◌-◌, ◌≤◌}
-use lib.ListN.{length}
 use Rattle.rules.specs.Cells.{write_each}
 use Rattle.rules.specs.Value.{value_cells}
 use Rattle.cells.specs.Out.{stored}
@@ -11,7 +9,4 @@ use Rattle.calls.specs.Values.{values_in}
 use Rattle.calls.proofs.values.write_values.Given as goal
 
 abbrev pub invariant-loop-k : goal.invariant-loop-k
-invariant-loop-k l = (l.k ≤ l.count) × (length l.board ≡ length l.initial.board) × (l.board ≡ stored l.initial.board l.at (write_each value_cells (values_in l.cells (head_of l.h) l.from l.k)))
-
-abbrev pub decreases-loop-k : goal.decreases-loop-k
-decreases-loop-k l = l.count - l.k
+invariant-loop-k l = l.board ≡ stored l.initial.board l.at (write_each value_cells (values_in l.cells (head_of l.h) l.from l.k))

@@ -46,15 +46,15 @@ told c make same =
     ∙ sym (text_read a.text c.requires.0 c.requires.1 a.area.now a.payload make same)
     ∙ ap (λ k. read_as a.text a.area.now k a.payload) (sym c.if-kind-text.false)
 
-pub returns-in_default-read_text : goal.returns-in_default-read_text
-returns-in_default-read_text c =
+pub returns-in_err-t-in_default : goal.returns-in_err-t-in_default
+returns-in_err-t-in_default c =
     let a = c.args in
-    ap (as_value (λ t. value_as a.text a.payload)) (sym c.in_default-read_text.is) ∙ told (goal.at.returns-in_default-read_text c).After-read_text (λ t. value_as a.text a.payload) refl
+    c.from_residual.ensures ∙ ap (as_value (λ t. value_as a.text a.payload)) (sym c.in_err-t-in_default.was) ∙ told (goal.at.returns-in_err-t-in_default c).After-read_text (λ t. value_as a.text a.payload) refl
 
 pub returns-then-text-eq-SPEC_TEXT : goal.returns-then-text-eq-SPEC_TEXT
 returns-then-text-eq-SPEC_TEXT c =
     let a = c.args in
-    ap (as_value SpecText) (sym c.in-Is.is) ∙ told (goal.at.returns-then-text-eq-SPEC_TEXT c).After-read_text SpecText (ap (λ k. value_as k a.payload) c.if-text-eq-SPEC_TEXT.true)
+    ap (as_value SpecText) (sym c.in_ok-t-in_default.was) ∙ told (goal.at.returns-then-text-eq-SPEC_TEXT c).After-read_text SpecText (ap (λ k. value_as k a.payload) c.if-text-eq-SPEC_TEXT.true)
 
 pub returns-else-payload-eq0 : goal.returns-else-payload-eq0
 unfolding read_as well_formed
@@ -81,4 +81,4 @@ six n l h d = omega arith
 
 pub returns-else-text-eq-SPEC_TEXT : goal.returns-else-text-eq-SPEC_TEXT
 returns-else-text-eq-SPEC_TEXT c =
-    ap (as_value CallText) (sym c.in-Is.is) ∙ told (goal.at.returns-else-text-eq-SPEC_TEXT c).After-read_text CallText (ap (λ k. value_as k c.args.payload) (six c.args.text c.requires.0 c.requires.1 c.if-text-eq-SPEC_TEXT.false))
+    ap (as_value CallText) (sym c.in_ok-t-in_default.was) ∙ told (goal.at.returns-else-text-eq-SPEC_TEXT c).After-read_text CallText (ap (λ k. value_as k c.args.payload) (six c.args.text c.requires.0 c.requires.1 c.if-text-eq-SPEC_TEXT.false))

@@ -1,28 +1,63 @@
--- `collector::collect::bind` meets its contract: a call has ended after 9 to 12 and the short path, or what is left open ends as the call's
--- outcome says. Assumes nothing.
-use mathlib.Core.Path.{refl, subst}
+-- `collector::collect::bind` meets its contract: 9 to 12 are handed on where they refuse, the short path asks 14 and ends as the call's outcome
+-- says, and any other call is left to `collect_open`. Assumes nothing.
+use mathlib.Core.Path.{◌≡◌, refl, sym, subst, ◌∙◌}
+use mathlib.Core.Bool.{true}
+use Prim.Native.Nat.{◌+◌, min}
+use Rattle.std.proofs.lemmas.Result.{err_from_is_err_and}
+use Rattle.std.specs.Prelude.{Ok}
+use Rattle.rules.specs.Answer.{fine}
+use Rattle.rules.specs.CallQuestions.{ask_form, ask_call}
+use Rattle.rules.specs.Collection.{call_of}
 use Rattle.builder.specs.Params.{parameters_in}
-use Rattle.collector.specs.Collect.{Ends, bound_to, Beginning}
+use Rattle.calls.specs.Head.{head_of}
+use Rattle.calls.specs.Keys.{ask_keys}
+use Rattle.calls.proofs.LawsCall.{keys_form}
+use Rattle.collector.specs.Collect.{Ends, is_short}
+use Rattle.collector.proofs.LawsReady.{call_ready, inline_ready}
+use Rattle.collector.proofs.LawsEnds.{short_call, short_passed, bound_keys, bound_short_board, bound_binding}
 use Rattle.collector.proofs.collect.bind.Goals as goal
-use Rattle.collector.proofs.collect.bind.Goals.{After-begin-begun}
+use Rattle.collector.proofs.collect.bind.Goals.{Else-not-is_short}
 
--- how far the call is
-beginning : (begun : After-begin-begun) → let a = begun.args in Beginning (parameters_in a.spec.now a.list.params) a.cells.now a.area.now a.board.now begun.begin-begun.new.board begun.begin-begun.result
-beginning begun = let a = begun.args in begun.begin-begun.ensures a.spec.now a.list begun.requires refl refl
-
-pub collect_open-requires : goal.collect_open-requires
-collect_open-requires c =
-    let passed = (beginning (goal.at.collect_open-requires c).After-begin-begun).left_open c.in-Open.h c.in-Open.is in
-    record { list = c.requires; read = passed.0; passed = passed.1 }
-
-pub returns-in-Ended : goal.returns-in-Ended
-returns-in-Ended c =
-    (beginning (goal.at.returns-in-Ended c).After-begin-begun).ended c.in-Ended.ended c.in-Ended.is
-
-pub returns-in-Open : goal.returns-in-Open
-returns-in-Open c =
+pub returns-in_err-ask_keys : goal.returns-in_err-ask_keys
+returns-in_err-ask_keys c =
     let a = c.args in
-    let passed = (beginning (goal.at.returns-in-Open c).After-begin-begun).left_open c.in-Open.h c.in-Open.is in
-    let qs = parameters_in a.spec.now a.list.params in
-    let after = c.collect_open.new.board in
-    subst (λ b. Ends (bound_to qs a.cells.now a.area.now b) b after c.collect_open.result) passed.2 c.collect_open.ensures
+    let p = err_from_is_err_and c.from_residual.result c.from_residual.ensures.1 in
+    rw (p.1, p.2) (bound_keys (parameters_in a.spec.now a.list.now.params) a.cells.now a.area.now a.board.now c.in_err-ask_keys.field-0.0 (sym c.in_err-ask_keys.ensures))
+
+-- a call that passed 9 to 12
+module _ (c : Else-not-is_short) where
+  passed : let a = c.args in ask_keys 64 a.cells.now a.area.now ≡ fine
+  passed = sym c.in_ok-ask_keys.ensures
+
+  form : let a = c.args in ask_form 64 a.cells.now a.area.now ≡ fine
+  form = keys_form 64 _ _ passed
+
+  -- one that the short path is for has no names, so 13 is passed
+  all_passed : let a = c.args in is_short a.list.now.indices.num_positional a.list.now.params.len (head_of c.read_head-h.result) ≡ true → ask_call 64 a.cells.now a.area.now ≡ fine
+  all_passed applies =
+      let a = c.args in
+      short_passed a.cells.now a.area.now (head_of c.read_head-h.result) c.read_head-h.ensures passed a.list.now.indices.num_positional a.list.now.params.len applies
+
+pub returns-then-board-lt-BOARD : goal.returns-then-board-lt-BOARD
+returns-then-board-lt-BOARD c =
+    let a = c.args in
+    bound_short_board (parameters_in a.spec.now a.list.now.params) a.cells.now a.area.now a.board.now
+    (all_passed (goal.at.returns-then-board-lt-BOARD c).Else-not-is_short (sym c.is_short.ensures ∙ c.if-not-is_short.false)) c.if-board-lt-BOARD.true
+
+pub collect_inline-requires : goal.collect_inline-requires
+collect_inline-requires c =
+    let a = c.args in
+    inline_ready a.cells.now a.area.now (head_of c.read_head-h.result) c.read_head-h.ensures (form (goal.at.collect_inline-requires c).Else-not-is_short) a.board.now c.if-board-lt-BOARD.false
+
+pub returns : goal.returns
+returns c =
+    let a = c.args in
+    let l = a.list.now in
+    let h = head_of c.read_head-h.result in
+    let short = (goal.at.returns c).Else-not-is_short in
+    let applies : is_short l.indices.num_positional l.params.len h ≡ true = sym c.is_short.ensures ∙ c.if-not-is_short.false in
+    subst (λ o. Ends o a.board.now c.collect_inline.new.board (Ok c.collect_inline.result))
+    (sym (bound_binding (parameters_in a.spec.now l.params) a.cells.now a.area.now a.board.now (all_passed short applies) c.if-board-lt-BOARD.false))
+    (c.collect_inline.ensures (parameters_in a.spec.now l.params) (call_of a.cells.now a.area.now)
+    (short_call a.spec.now l a.cells.now a.area.now h c.read_head-h.ensures (min (h.p + h.s) l.indices.num_positional)
+    (call_ready a.cells.now a.area.now h c.read_head-h.ensures (form short) a.spec.now l c.requires _ refl) applies))

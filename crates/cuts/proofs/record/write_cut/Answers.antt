@@ -1,5 +1,5 @@
 -- `cuts::record::write_cut` meets its contract: the head and four runs behind it are the record. Assumes nothing.
-use mathlib.Core.Path.{◌≡◌, refl, sym, ap, ◌∙◌}
+use mathlib.Core.Path.{refl, sym, ap, ◌∙◌}
 use Prim.Native.Nat.{◌-◌, ◌+◌, ◌*◌, ◌/◌}
 use native.Mathlib.Omega.{arith}
 use lib.ListN.{length}
@@ -8,12 +8,6 @@ use Rattle.cuts.specs.Record.{cut_of, head_cells, run_of}
 use Rattle.cuts.proofs.LawsWrite.{cut_cells, four_stored}
 use Rattle.cuts.proofs.LawsRun.{run_length}
 use Rattle.cuts.proofs.record.write_cut.Goals as goal
-
-pub copy_values-requires-4 : goal.copy_values-requires-4
-copy_values-requires-4 c =
-    let fits = c.requires.0 in
-    let held : length c.copy_values-3.new.out ≡ length c.args.out.now = c.copy_values-3.auto.out ∙ c.copy_values-2.auto.out ∙ c.copy_values.auto.out ∙ c.write_head.auto.out in
-    (omega (arith, fits.whole_pairs, fits.within_pairs), omega (arith, held, c.requires.1, fits.few_values, fits.few_pairs, fits.within_values, fits.within_pairs))
 
 pub returns : goal.returns
 returns c =

@@ -1,22 +1,20 @@
+-- `findings::entries::entry_at` meets its contract: by the key that was read, 18, or what 19 answers for the text. Assumes nothing.
 use mathlib.Core.Path.{sym, ap, ◌∙◌}
-use Rattle.findings.specs.Entries.{entered_by, word_in, entered_in}
+use borrow.Author.Rules.{rules}
+use Rattle.findings.specs.Entries.{word_in, entered_in}
 use Rattle.findings.proofs.entries.entry_at.Goals as goal
 
-pub returns-in-Word : goal.returns-in-Word
+pub returns-in-Some-Word : goal.returns-in-Some-Word
 unfolding entered_in
-returns-in-Word c =
+returns-in-Some-Word c =
     let a = c.args in
-    c.word_at.ensures ∙ ap (word_in a.spec.now a.codes.now a.styles.now a.names.now a.len a.area.now a.cells.now a.next a.sources.now a.rest.now a.count) c.payload.ensures
-    ∙ sym (ap (λ k. entered_by k (word_in a.spec.now a.codes.now a.styles.now a.names.now a.len a.area.now a.cells.now a.next a.sources.now a.rest.now a.count)) (sym c.key_at.ensures ∙ c.in-Word.is))
+    rw (sym c.in-Some-Word.ensures, c.in-Some-Word.field-0-is)
+    (c.word_at.ensures ∙ ap (word_in a.spec.now a.params.now a.area.now a.cells.now a.next a.sources.now a.rest.now a.count) c.payload.ensures)
 
-pub returns-in-Number : goal.returns-in-Number
+pub returns-in_default : goal.returns-in_default
 unfolding entered_in
-returns-in-Number c =
-    let a = c.args in
-    sym (ap (λ k. entered_by k (word_in a.spec.now a.codes.now a.styles.now a.names.now a.len a.area.now a.cells.now a.next a.sources.now a.rest.now a.count)) (sym c.key_at.ensures ∙ c.in-Number.is))
+returns-in_default c = search rules
 
-pub returns-in-Not : goal.returns-in-Not
+pub returns-in_default-2 : goal.returns-in_default-2
 unfolding entered_in
-returns-in-Not c =
-    let a = c.args in
-    sym (ap (λ k. entered_by k (word_in a.spec.now a.codes.now a.styles.now a.names.now a.len a.area.now a.cells.now a.next a.sources.now a.rest.now a.count)) (sym c.key_at.ensures ∙ c.in-Not.is))
+returns-in_default-2 c = search rules

@@ -1,37 +1,50 @@
-use mathlib.Core.Path.{sym, ap, ◌∙◌}
-use mathlib.Core.Bool.{not}
-use borrow.Author.Tests.{eq-eqb, ne_eqb}
-use native.Mathlib.Nat.{sub-zero}
-use lib.Dec.{eqb}
-use lib.ListN.{get_or}
-use Rattle.rules.proofs.LawsIndex.{first_index_hit, first_index_miss, first_index_none}
-use Rattle.findings.specs.Found.{first_named}
+-- `findings::found::first_named` meets its contract: what the library finds is the first index that passes the test, or none does.
+-- Assumes nothing.
+use Rattle.std.specs.Prelude.{Option, Some, None, MatchOption}
+use Rattle.std.specs.List.{AllWithin, HoldsAt}
+use Rattle.std.proofs.lemmas.Iterator.{YieldsList-from_slice, IsFirst-from_position}
+use mathlib.Core.Path.{◌≡◌, sym, ap, ◌∙◌}
+use mathlib.Core.Bool.{Bool, false, not}
+use mathlib.Core.List.{List}
+use Prim.Native.Nat.{ℕ, ◌≤◌, ◌<◌}
+use native.Mathlib.Omega.{arith}
 use borrow.Author.Rules.{rules}
+use borrow.Author.Tests.{tests, eq-eqb, ne_eqb}
+use lib.Dec.{eqb}
+use lib.ListN.{length, take, get_or}
+use lib.Seq.{length-take-le, get_or-take}
+use Rattle.rules.specs.Listing.{first_index}
+use Rattle.builder.specs.Spec.{index_of}
+use Rattle.findings.specs.Found.{first_named}
+use Rattle.findings.proofs.LawsFirst.{first_at, nowhere}
 use Rattle.findings.proofs.found.first_named.Goals as goal
 
-pub loop-k-init : goal.loop-k-init
-loop-k-init c = (search rules, ap (first_named c.args.sources.now 0) (sym (sub-zero c.args.next)))
+-- the first of the first n numbers of a list, where the test is that a number is not 0
+module _ (xs : List ℕ) (n : ℕ) (long : n ≤ length xs) where
+  abbrev test : ℕ → Bool
+  test i = not (eqb (get_or xs i 0) 0)
 
-pub returns-then-sources-k-ne0 : goal.returns-then-sources-k-ne0
-unfolding first_named
-returns-then-sources-k-ne0 c =
-    sym
-    (c.loop-k.invariant.1
-    ∙ first_index_hit (λ i. not (eqb (get_or c.args.sources.now i 0) 0)) c.loop-k.k c.args.next (search rules)
-    (ap not (ne_eqb (get_or c.args.sources.now c.loop-k.k 0) 0 c.if-sources-k-ne0.true)))
+  size : length (take n xs) ≡ n
+  size = length-take-le n xs long
 
-pub loop-k-preserved : goal.loop-k-preserved
-unfolding first_named
-loop-k-preserved c = (
-  search rules,
-  c.loop-k.invariant.1
-      ∙ first_index_miss (λ i. not (eqb (get_or c.args.sources.now i 0) 0)) c.loop-k.k c.args.next (search rules)
-      (ap not (eq-eqb (get_or c.args.sources.now c.loop-k.k 0) 0 c.if-sources-k-ne0.false)),
-)
+  zero_at : (j : ℕ) → j < n → get_or (take n xs) j 0 ≡ 0 → test j ≡ false
+  zero_at j h e = ap not (eq-eqb (get_or xs j 0) 0 (sym (get_or-take n xs j 0 h) ∙ e))
+
+  first_by
+      : (r : Option ℕ)
+      → MatchOption r (AllWithin (λ x. x ≡ 0) (take n xs) 0 (length (take n xs))) (λ i. (i < length (take n xs)) × HoldsAt (λ x. x ≡ 0 → ⊥) (take n xs) i × AllWithin (λ x. x ≡ 0) (take n xs) 0 i)
+      → index_of r ≡ first_index test 0 n
+  first_by (Some i) m =
+      let below : i < n = omega (arith, m.0, size) in
+      sym
+      (first_at test 0 n i (omega arith) (omega arith)
+      (ap not (ne_eqb (get_or xs i 0) 0 (λ e. m.1 0 (get_or-take n xs i 0 below ∙ e))))
+      (λ j l u. zero_at j (omega arith) (m.2 j 0 l u)))
+  first_by None m = sym (nowhere test 0 n (λ j l u. zero_at j (omega arith) (m j 0 l (omega (arith, size)))))
 
 pub returns : goal.returns
 unfolding first_named
 returns c =
-    sym
-    (c.loop-k.invariant.1
-    ∙ first_index_none (λ i. not (eqb (get_or c.args.sources.now i 0) 0)) c.loop-k.k c.args.next (search rules))
+    let a = c.args in
+    first_by a.sources.now a.next (omega arith) c.position.result
+    (IsFirst-from_position _ _ c.position.result (λ x. x ≡ 0 → ⊥) (λ x. x ≡ 0) c.position.ensures.ran (YieldsList-from_slice (take a.next a.sources.now) cc) (λ x q k. search (rules, tests)) (λ x q k. search (rules, tests)))

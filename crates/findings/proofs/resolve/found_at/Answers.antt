@@ -5,13 +5,10 @@ use Rattle.lookup.specs.Lookup.{find_in}
 use Rattle.findings.specs.Resolve.{found_in}
 use Rattle.findings.proofs.resolve.found_at.Goals as goal
 
-pub find_from-requires : goal.find_from-requires
-find_from-requires c = c.requires c.part.result.now
-
 pub returns : goal.returns
 unfolding found_in
 returns c =
     let a = c.args in
     c.find_from.ensures
-    ∙ ap (find_in a.spec.now a.codes.now a.styles.now a.names.now a.len)
+    ∙ ap (find_in a.spec.now a.params.now)
     (c.part.ensures.bytes ∙ ap (λ v. part_at a.area.now v.payload) c.pair_at-key.ensures)

@@ -2,33 +2,29 @@ use mathlib.Core.Path.{◌≡◌, refl, sym, ap, subst, ◌∙◌}
 use mathlib.Core.Bool.{true}
 use Prim.Native.Nat.{◌+◌, ◌*◌}
 use native.Mathlib.Omega.{arith}
-use Rattle.rules.specs.Text.{among, differ}
+use Rattle.rules.specs.Text.{among}
 use Rattle.rules.specs.Binding.{texts_of}
 use Rattle.cells.specs.Text.{part_at}
 use Rattle.cells.specs.Record.{pair_at}
 use Rattle.builder.specs.Params.{parameters_in}
-use Rattle.findings.specs.Resolved.{named_at, Resolved}
-use Rattle.findings.specs.Resolve.{Below, Naming, Others, lent_list, pairs_from}
+use Rattle.builder.specs.declared.spec.DefParamIndices.{DefParamIndices}
+use Rattle.findings.specs.Resolved.{named_at}
+use Rattle.findings.specs.Resolve.{Below, Naming, lent_list, pairs_from}
 use Rattle.findings.specs.Entries.{held_names, repeats_by}
 use Rattle.findings.proofs.LawsNames.{one_each, naming_below, naming_few, naming_room, naming_repeats, naming_twice, naming_differ, naming_step}
 use Rattle.findings.proofs.LawsLoop.{resolved_held}
-use Rattle.findings.proofs.LawsEnded.{twice_all, all_twice, names_all}
-use borrow.Author.Rules.{rules}
+use Rattle.findings.proofs.LawsEnded.{err_ok, same_err}
 use Rattle.findings.proofs.resolve.resolve_names.Goals as goal
 use Rattle.findings.proofs.resolve.resolve_names.Goals.{After-found_near-found, After-repeats}
 
 pub loop-k-init : goal.loop-k-init
 unfolding texts_of
-loop-k-init c = (search rules, λ o naming. (refl, naming.empty))
-
-pub overflow_add-pair : goal.overflow_add-pair
-overflow_add-pair c =
-    omega (arith, c.requires.naming.pairs.few, c.requires.naming.pairs.near)
+loop-k-init c o naming = (refl, naming.empty)
 
 pub found_near-found-requires : goal.found_near-found-requires
 found_near-found-requires c =
     let a = c.args in (
-      one_each a.spec.now (lent_list a.codes.now a.styles.now a.names.now a.len c.requires.others) a.cells.now a.area.now c.requires.naming.list,
+      one_each a.spec.now (lent_list a.params.now c.requires.indices) a.cells.now a.area.now c.requires.naming.list,
       omega (arith, c.requires.naming.pairs.within, c.loop-k-test.true),
     )
 
@@ -37,35 +33,35 @@ found_below : (c : After-found_near-found) → Below 64 c.found_near-found.resul
 found_below c =
     let a = c.args in
     subst (Below 64) (sym c.found_near-found.ensures)
-    (naming_below a.spec.now (lent_list a.codes.now a.styles.now a.names.now a.len c.requires.others) a.cells.now a.area.now a.from a.n a.sources.now a.rest.now c.requires.naming c.loop-k.k c.loop-k-test.true)
+    (naming_below a.spec.now (lent_list a.params.now c.requires.indices) a.cells.now a.area.now a.from a.n a.sources.now a.rest.now c.requires.naming c.loop-k.k c.loop-k-test.true)
 
 pub repeats-requires : goal.repeats-requires
 repeats-requires c =
     let at = c.loop-k in
     let a = c.args in (
-      resolved_held (parameters_in a.spec.now (lent_list a.codes.now a.styles.now a.names.now a.len c.requires.others).params) a.cells.now a.area.now (pairs_from a.area.now a.cells.now a.from at.k) at.sources at.rest at.count (at.invariant.1 c.requires.others c.requires.naming).1
-          (omega (arith, naming_few a.spec.now (lent_list a.codes.now a.styles.now a.names.now a.len c.requires.others) a.cells.now a.area.now a.from a.n a.sources.now a.rest.now c.requires.naming at.k c.loop-k-test.true)),
+      resolved_held (parameters_in a.spec.now a.params.now) a.cells.now a.area.now (pairs_from a.area.now a.cells.now a.from at.k) at.sources at.rest at.count (at.invariant c.requires.indices c.requires.naming).1
+          (omega (arith, naming_few a.spec.now (lent_list a.params.now c.requires.indices) a.cells.now a.area.now a.from a.n a.sources.now a.rest.now c.requires.naming at.k c.loop-k-test.true)),
       found_below (goal.at.repeats-requires c).After-found_near-found,
     )
 
 -- the test says whether the name at k is one of those before it, whichever list has the columns
-tested : (c : After-repeats) (o : Others) → let a = c.args in
-    Naming a.spec.now (lent_list a.codes.now a.styles.now a.names.now a.len o) a.cells.now a.area.now a.from a.n a.sources.now a.rest.now
+tested : (c : After-repeats) (o : DefParamIndices) → let a = c.args in
+    Naming a.spec.now (lent_list a.params.now o) a.cells.now a.area.now a.from a.n a.sources.now a.rest.now
     → c.repeats.result ≡ among (named_at a.area.now a.cells.now (a.from + 4 * c.loop-k.k)).name.bytes (texts_of (pairs_from a.area.now a.cells.now a.from c.loop-k.k))
 tested c o naming =
     let at = c.loop-k in
     let a = c.args in
     c.repeats.ensures
     ∙ ap (λ f. repeats_by f at.sources (held_names a.area.now a.cells.now at.rest at.count) (part_at a.area.now (pair_at a.cells.now (a.from + 4 * at.k)).payload)) c.found_near-found.ensures
-    ∙ naming_repeats a.spec.now (lent_list a.codes.now a.styles.now a.names.now a.len o) a.cells.now a.area.now a.from a.n a.sources.now a.rest.now naming at.k c.loop-k-test.true at.sources at.rest at.count (at.invariant.1 o naming).1
+    ∙ naming_repeats a.spec.now (lent_list a.params.now o) a.cells.now a.area.now a.from a.n a.sources.now a.rest.now naming at.k c.loop-k-test.true at.sources at.rest at.count (at.invariant o naming).1
 
 pub returns-then-repeats : goal.returns-then-repeats
 returns-then-repeats c o naming =
     let at = c.loop-k in
     let a = c.args in
     record {
-      all = λ m e. twice_all e;
-      repeated = λ e. naming_twice a.spec.now (lent_list a.codes.now a.styles.now a.names.now a.len o) a.cells.now a.area.now a.from a.n a.sources.now a.rest.now naming at.k c.loop-k-test.true (sym (tested (goal.at.returns-then-repeats c).After-repeats o naming) ∙ c.if-repeats.true);
+      all = λ m e. err_ok e;
+      repeated = λ q e. (sym (same_err e), naming_twice a.spec.now (lent_list a.params.now o) a.cells.now a.area.now a.from a.n a.sources.now a.rest.now naming at.k c.loop-k-test.true (sym (tested (goal.at.returns-then-repeats c).After-repeats o naming) ∙ c.if-repeats.true));
     }
 
 pub behind-guess-requires : goal.behind-guess-requires
@@ -76,38 +72,18 @@ enter-count-requires c =
     let at = c.loop-k in
     let a = c.args in (
       omega (arith, c.requires.naming.pairs.few, c.requires.naming.pairs.near, c.loop-k-test.true),
-      naming_room a.spec.now (lent_list a.codes.now a.styles.now a.names.now a.len c.requires.others) a.cells.now a.area.now a.from a.n a.sources.now a.rest.now c.requires.naming at.k c.loop-k-test.true at.sources at.rest at.count (at.invariant.1 c.requires.others c.requires.naming).1,
+      naming_room a.spec.now (lent_list a.params.now c.requires.indices) a.cells.now a.area.now a.from a.n a.sources.now a.rest.now c.requires.naming at.k c.loop-k-test.true at.sources at.rest at.count (at.invariant c.requires.indices c.requires.naming).1,
       found_below (goal.at.enter-count-requires c).After-found_near-found,
     )
 
-pub loop-k-smaller : goal.loop-k-smaller
-loop-k-smaller c = omega (arith, c.loop-k-test.true)
-
 pub loop-k-preserved : goal.loop-k-preserved
-loop-k-preserved c =
+loop-k-preserved c o naming =
     let at = c.loop-k in
     let below = c.loop-k-test.true in
-    let a = c.args in (
-      omega (arith, below),
-      λ o naming.
-          let so_far = at.invariant.1 o naming in
-          let fresh = sym (tested (goal.at.loop-k-preserved c).After-repeats o naming) ∙ c.if-repeats.false in (
-            naming_differ a.spec.now (lent_list a.codes.now a.styles.now a.names.now a.len o) a.cells.now a.area.now a.from a.n a.sources.now a.rest.now naming at.k below so_far.0 fresh,
-            rw (c.enter-count.ensures.after, c.enter-count.ensures.sources, c.enter-count.ensures.rest, c.found_near-found.ensures)
-                (naming_step a.spec.now (lent_list a.codes.now a.styles.now a.names.now a.len o) a.cells.now a.area.now a.from a.n a.sources.now a.rest.now naming at.k below at.sources at.rest at.count so_far.1 fresh),
-          ),
-    )
-
-pub returns : goal.returns
-returns c o naming =
     let a = c.args in
-    let at = c.loop-k in
-    let qs = parameters_in a.spec.now (lent_list a.codes.now a.styles.now a.names.now a.len o).params in
-    let whole : at.k ≡ a.n = omega (arith, at.invariant.0, c.loop-k-test.false) in
-    record {
-      all = λ m e.
-          let same : at.count ≡ m = names_all e in
-          subst (λ x. (differ (texts_of (pairs_from a.area.now a.cells.now a.from a.n)) ≡ true) × Resolved qs a.cells.now a.area.now (pairs_from a.area.now a.cells.now a.from a.n) at.sources at.rest x) same
-          (subst (λ x. (differ (texts_of (pairs_from a.area.now a.cells.now a.from x)) ≡ true) × Resolved qs a.cells.now a.area.now (pairs_from a.area.now a.cells.now a.from x) at.sources at.rest at.count) whole (at.invariant.1 o naming));
-      repeated = λ e. all_twice e;
-    }
+    let so_far = at.invariant o naming in
+    let fresh = sym (tested (goal.at.loop-k-preserved c).After-repeats o naming) ∙ c.if-repeats.false in (
+      naming_differ a.spec.now (lent_list a.params.now o) a.cells.now a.area.now a.from a.n a.sources.now a.rest.now naming at.k below so_far.0 fresh,
+      rw (c.enter-count.ensures.after, c.enter-count.ensures.sources, c.enter-count.ensures.rest, c.found_near-found.ensures)
+          (naming_step a.spec.now (lent_list a.params.now o) a.cells.now a.area.now a.from a.n a.sources.now a.rest.now naming at.k below at.sources at.rest at.count so_far.1 fresh),
+    )

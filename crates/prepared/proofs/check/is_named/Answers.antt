@@ -4,10 +4,10 @@ use Rattle.prepared.specs.Rows.{param_at}
 use Rattle.prepared.proofs.LawsRows.{row_at_cells, names_style, names_bytes}
 use Rattle.prepared.proofs.check.is_named.Goals as goal
 
-pub returns-then-not-may_be_named : goal.returns-then-not-may_be_named
+pub returns-then-may_be_named : goal.returns-then-may_be_named
 unfolding param_at
-returns-then-not-may_be_named c = rw row_at_cells (names_style _ _ _ c.may_be_named.ensures c.if-not-may_be_named.true-raw)
+returns-then-may_be_named c = rw row_at_cells (names_bytes _ _ _ c.may_be_named.ensures c.if-may_be_named.true c.bytes_at.ensures c.same.ensures)
 
-pub returns : goal.returns
+pub returns-else-may_be_named : goal.returns-else-may_be_named
 unfolding param_at
-returns c = rw row_at_cells (names_bytes _ _ _ c.may_be_named.ensures c.if-not-may_be_named.false-raw c.bytes_at.ensures c.same.ensures)
+returns-else-may_be_named c = rw row_at_cells (names_style _ _ _ c.may_be_named.ensures c.if-may_be_named.false)

@@ -1,27 +1,32 @@
 -- `prepared::check::is_prepared` meets its contract, from the answers of its callees, one after the other.
 -- Assumes nothing.
+use mathlib.Core.Path.{sym, ◌∙◌}
+use Prim.Native.Nat.{◌+◌, ◌*◌, ◌≤◌}
 use native.Mathlib.Omega.{arith}
+use borrow.Author.Tests.{leb-true}
+use lib.ListN.{length}
 use Rattle.prepared.proofs.LawsCheck.{not_few, not_long, not_named, is_asked}
 use Rattle.prepared.proofs.check.is_prepared.Goals as goal
+use Rattle.prepared.proofs.check.is_prepared.Goals.{then-n-cells, else-n-cells}
 
 pub returns-then-count : goal.returns-then-count
 returns-then-count c =
     let a = c.args in
     not_few a.area.now a.cells.now c.cell-count.result c.cell-count.ensures c.if-count.true
 
-pub returns-then-cells-n : goal.returns-then-cells-n
-returns-then-cells-n c =
+pub returns-then-is_name : goal.returns-then-is_name
+returns-then-is_name c =
     let a = c.args in
-    not_long a.area.now a.cells.now c.cell-count.result c.cell-count.ensures c.if-count.false (omega (arith, c.if-cells-n.true))
+    elim c.if-n-cells.branch [
+      | then-n-cells w ↦ is_asked a.area.now a.cells.now c.cell-count.result c.cell-count.ensures c.if-count.false w.if-n-cells.true w.is_name.ensures
+          (sym w.value-is ∙ c.if-is_name.true) c.rows_right.ensures
+      | else-n-cells w ↦ let l : 2 + 6 * c.cell-count.result ≤ length a.cells.now = leb-true _ _ (sym w.value-is ∙ c.if-is_name.true) in absurd (omega (arith, w.if-n-cells.false))
+    ]
 
-pub returns-then-not-is_name : goal.returns-then-not-is_name
-returns-then-not-is_name c =
+pub returns-else-is_name : goal.returns-else-is_name
+returns-else-is_name c =
     let a = c.args in
-    not_named a.area.now a.cells.now c.cell-count.result c.cell-count.ensures c.if-count.false c.if-cells-n.false c.is_name.ensures
-    c.if-not-is_name.true-raw
-
-pub returns : goal.returns
-returns c =
-    let a = c.args in
-    is_asked a.area.now a.cells.now c.cell-count.result c.cell-count.ensures c.if-count.false c.if-cells-n.false c.is_name.ensures
-    c.if-not-is_name.false-raw c.rows_right.ensures
+    elim c.if-n-cells.branch [
+      | then-n-cells w ↦ c.if-is_name.false ∙ not_named a.area.now a.cells.now c.cell-count.result c.cell-count.ensures c.if-count.false w.if-n-cells.true w.is_name.ensures (sym w.value-is ∙ c.if-is_name.false)
+      | else-n-cells w ↦ c.if-is_name.false ∙ not_long a.area.now a.cells.now c.cell-count.result c.cell-count.ensures c.if-count.false w.if-n-cells.false
+    ]

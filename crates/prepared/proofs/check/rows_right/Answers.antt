@@ -1,26 +1,18 @@
-use mathlib.Core.Path.{refl}
 use Rattle.prepared.specs.Rows.{row_in}
-use Rattle.prepared.proofs.LawsRowsLoop.{asked, Right, so_far_none, all_asked, too_early, row_wrong, row_right_lem, keyed_here, style_here, slot_within, slot_asked, twice, on_unnamed, on_unknown, on_new}
+use Rattle.prepared.proofs.LawsRowsLoop.{asked, Right, too_early, row_wrong, row_right_lem, keyed_here, style_here, slot_asked, twice, on_unnamed, on_unknown, on_new}
 use Rattle.prepared.proofs.check.rows_right.Goals as goal
-use Rattle.prepared.proofs.check.rows_right.Goals.{Else-not-is_right, then-may_be_named, else-may_be_named, then-used-slot-eq1+else-known_before, else-used-slot-eq1}
-
-pub loop-i-init : goal.loop-i-init
-loop-i-init c = so_far_none _ _ _ _ refl
+use Rattle.prepared.proofs.check.rows_right.Goals.{Else-not-is_right, then-row-least-via-then-row-least, then-row-least-via-else-row-least+then-not-is_right, then-may_be_named+else-used-slot-eq1, else-may_be_named, else-used-slot-eq1-via-then-used-slot-eq1+else-known_before, else-used-slot-eq1-via-else-used-slot-eq1}
 
 pub returns-then-row-least : goal.returns-then-row-least
 unfolding asked row_in
 returns-then-row-least c =
     let at = c.loop-i in
     let a = c.args in
-    too_early a.area.now a.cells.now a.n at.used at.least at.i at.invariant c.loop-i-test.true c.row_at-row.ensures c.if-row-least.true
-
-pub returns-then-not-is_right : goal.returns-then-not-is_right
-unfolding asked row_in
-returns-then-not-is_right c =
-    let at = c.loop-i in
-    let a = c.args in
-    row_wrong a.area.now a.cells.now a.n at.used at.least at.i at.invariant c.loop-i-test.true c.row_at-row.ensures c.if-row-least.false
-    c.is_right.ensures c.if-not-is_right.true-raw
+    elim c.then-row-least.branch [
+      | then-row-least-via-then-row-least w ↦ too_early a.area.now a.cells.now a.n at.used at.least at.i at.invariant c.loop-i-test.true c.row_at-row.ensures w.if-row-least.true
+      | then-row-least-via-else-row-least+then-not-is_right w ↦ row_wrong a.area.now a.cells.now a.n at.used at.least at.i at.invariant c.loop-i-test.true c.row_at-row.ensures w.if-row-least.false
+          w.is_right.ensures w.if-not-is_right.true
+    ]
 
 -- row i is right, and not too early
 right : (c : Else-not-is_right)
@@ -32,15 +24,11 @@ right c =
     let at = c.loop-i in
     let a = c.args in
     row_right_lem a.area.now a.cells.now a.n at.used at.least at.i at.invariant c.loop-i-test.true c.row_at-row.ensures c.if-row-least.false
-    c.is_right.ensures c.if-not-is_right.false-raw
+    c.is_right.ensures c.if-not-is_right.false
 
 pub slot-slot-requires : goal.slot-slot-requires
 unfolding row_in
 slot-slot-requires c = slot_asked (right (goal.at.slot-slot-requires c).Else-not-is_right) c.may_be_named.ensures c.if-may_be_named.true
-
-pub bounds-used-slot : goal.bounds-used-slot
-unfolding row_in
-bounds-used-slot c = slot_within (right (goal.at.bounds-used-slot c).Else-not-is_right) c.slot-slot.ensures
 
 pub known_before-requires : goal.known_before-requires
 known_before-requires c =
@@ -51,10 +39,6 @@ unfolding asked row_in
 returns-then-known_before c =
     twice (right (goal.at.returns-then-known_before c).Else-not-is_right) c.may_be_named.ensures c.if-may_be_named.true c.known_before.ensures c.if-known_before.true
 
-pub bounds-used-slot-then-may_be_named : goal.bounds-used-slot-then-may_be_named
-unfolding row_in
-bounds-used-slot-then-may_be_named c = slot_within (right (goal.at.bounds-used-slot-then-may_be_named c).Else-not-is_right) c.slot-slot.ensures
-
 pub style_after-least-requires : goal.style_after-least-requires
 unfolding row_in
 style_after-least-requires c = style_here (right (goal.at.style_after-least-requires c).Else-not-is_right)
@@ -64,16 +48,9 @@ unfolding row_in
 loop-i-preserved c =
     let here = right (goal.at.loop-i-preserved c).Else-not-is_right in
     elim c.if-may_be_named.branch [
-      | then-may_be_named w ↦ elim w.if-used-slot-eq1.branch [
-        | then-used-slot-eq1+else-known_before v ↦ on_unknown here c.style_after-least.ensures w.slot-slot.ensures w.used-is v.known_before.ensures v.if-known_before.false
-        | else-used-slot-eq1 v ↦ on_new here c.style_after-least.ensures w.slot-slot.ensures w.used-is v.if-used-slot-eq1.false
+      | then-may_be_named+else-used-slot-eq1 w ↦ elim w.else-used-slot-eq1.branch [
+        | else-used-slot-eq1-via-then-used-slot-eq1+else-known_before v ↦ on_unknown here c.style_after-least.ensures w.slot-slot.ensures w.used-is v.known_before.ensures v.if-known_before.false
+        | else-used-slot-eq1-via-else-used-slot-eq1 v ↦ on_new here c.style_after-least.ensures w.slot-slot.ensures w.used-is v.if-used-slot-eq1.false
       ]
       | else-may_be_named w ↦ on_unnamed here c.may_be_named.ensures c.style_after-least.ensures w.if-may_be_named.false w.used-is
     ]
-
-pub returns : goal.returns
-unfolding asked
-returns c =
-    let a = c.args in
-    let at = c.loop-i in
-    all_asked a.area.now a.cells.now a.n at.used at.least at.i at.invariant c.loop-i-test.false

@@ -4,11 +4,10 @@ use mathlib.Core.Path.{◌≡◌, sym, ◌∙◌}
 use mathlib.Core.Bool.{false≢true}
 use Prim.Native.Nat.{◌+◌}
 use native.Mathlib.Omega.{arith}
-use borrow.Author.Tests.{not-false}
 use Rattle.calls.specs.Head.{head_of, Few}
 use Rattle.prepared.proofs.LawsSeenInOrder.{order_few, rows_there, named_ready, entries_ready, seen_in_order}
 use Rattle.prepared.proofs.in_order.in_order.Goals as goal
-use Rattle.prepared.proofs.in_order.in_order.Goals.{Else-values-h, Start}
+use Rattle.prepared.proofs.in_order.in_order.Goals.{Else-values-h, Start, then-takes_positions, else-takes_positions}
 
 few : (c : Start) → Few 64 (head_of c.args.h)
 few c = let a = c.args in order_few a.spec.now a.list.now a.cells.now a.area.now (head_of a.h) a.len c.requires
@@ -26,22 +25,10 @@ overflow_add-values-2 c = let f = few (goal.at.overflow_add-values-2 c).Start in
 pub overflow_add-values-3 : goal.overflow_add-values-3
 overflow_add-values-3 c = let f = few (goal.at.overflow_add-values-3 c).Start in omega (arith, f.few_p, f.few_s, f.few_n, f.few_d)
 
-pub returns-then-values-h : goal.returns-then-values-h
-returns-then-values-h c = λ e. absurd (false≢true e)
-
-pub returns-then-h-eq2 : goal.returns-then-h-eq2
-returns-then-h-eq2 c = λ e. absurd (false≢true e)
-
-pub returns-then-h-eq2-2 : goal.returns-then-h-eq2-2
-returns-then-h-eq2-2 c = λ e. absurd (false≢true e)
-
 pub takes_positions-requires : goal.takes_positions-requires
 takes_positions-requires c =
     let a = c.args in
     rows_there a.spec.now a.list.now a.cells.now a.area.now (head_of a.h) a.len c.requires (a.h.p + a.h.s) (omega (arith, full (goal.at.takes_positions-requires c).Else-values-h))
-
-pub returns-then-not-takes_positions : goal.returns-then-not-takes_positions
-returns-then-not-takes_positions c = λ e. absurd (false≢true e)
 
 pub entries_from-requires : goal.entries_from-requires
 entries_from-requires c =
@@ -52,23 +39,23 @@ named_in_turn-requires c =
     let a = c.args in
     entries_ready a.spec.now a.list.now a.cells.now a.area.now (head_of a.h) a.len c.requires (omega (arith, full (goal.at.named_in_turn-requires c).Else-values-h)) c.entries_from.ensures
 
-pub returns-then-not-named_in_turn : goal.returns-then-not-named_in_turn
-returns-then-not-named_in_turn c = λ e. absurd (false≢true e)
-
 pub named_from-requires : goal.named_from-requires
 named_from-requires c =
     few (goal.at.named_from-requires c).Start
 
-pub named_in_turn-requires-2 : goal.named_in_turn-requires-2
-named_in_turn-requires-2 c =
+pub named_in_turn-requires-then-named_in_turn : goal.named_in_turn-requires-then-named_in_turn
+named_in_turn-requires-then-named_in_turn c =
     let a = c.args in
-    named_ready a.spec.now a.list.now a.cells.now a.area.now (head_of a.h) a.len c.requires (omega (arith, full (goal.at.named_in_turn-requires-2 c).Else-values-h)) c.named_from.ensures
+    named_ready a.spec.now a.list.now a.cells.now a.area.now (head_of a.h) a.len c.requires (omega (arith, full (goal.at.named_in_turn-requires-then-named_in_turn c).Else-values-h)) c.named_from.ensures
 
-pub returns : goal.returns
-returns c =
+pub returns-then-named_in_turn : goal.returns-then-named_in_turn
+returns-then-named_in_turn c =
     let a = c.args in
-    λ e. seen_in_order a.spec.now a.list.now a.cells.now a.area.now (head_of a.h) a.len c.requires (full (goal.at.returns c).Else-values-h)
-    c.if-h-eq2.false c.if-h-eq2-2.false
-    (sym c.takes_positions.ensures ∙ not-false c.takes_positions.result c.if-not-takes_positions.false-raw)
-    c.entries_from.ensures (c.named_in_turn.ensures (not-false c.named_in_turn.result c.if-not-named_in_turn.false-raw))
-    c.named_from.ensures (c.named_in_turn-2.ensures e)
+    λ e. elim c.if-takes_positions.branch [
+      | then-takes_positions w ↦ seen_in_order a.spec.now a.list.now a.cells.now a.area.now (head_of a.h) a.len c.requires (full (goal.at.returns-then-named_in_turn c).Else-values-h)
+          c.if-h-eq2.false c.if-h-eq2-2.false
+          (sym c.takes_positions.ensures ∙ w.if-takes_positions.true)
+          w.entries_from.ensures (w.named_in_turn.ensures (sym w.value-is ∙ c.if-named_in_turn.true))
+          c.named_from.ensures (c.named_in_turn-then-named_in_turn.ensures e)
+      | else-takes_positions w ↦ absurd (false≢true (sym w.if-takes_positions.false ∙ sym w.value-is ∙ c.if-named_in_turn.true))
+    ]

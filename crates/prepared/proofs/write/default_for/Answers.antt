@@ -9,6 +9,6 @@ use Rattle.prepared.proofs.write.default_for.Goals as goal
 pub returns-then-code-eq3 : goal.returns-then-code-eq3
 returns-then-code-eq3 c = default_3 _ _ c.if-code-eq3.true
 
-pub returns : goal.returns
+pub returns-else-code-eq3 : goal.returns-else-code-eq3
 unfolding no_value
-returns c = ap pair_of c.new.ensures ∙ default_none _ _ c.if-code-eq3.false
+returns-else-code-eq3 c = ap pair_of c.new.ensures ∙ default_none _ _ c.if-code-eq3.false

@@ -26,7 +26,7 @@ unfolding parameter_at
 loop-i-preserved c =
     let a = c.args in
     let at = c.loop-i in
-    let p = a.params in
+    let p = a.params.now in
     writing_next a.area.now p _ at.out _ at.i (row_in c.row_for-row.result) at.invariant c.loop-i-test.true
     (c.row_for-row.ensures
     ∙ ap (λ v. row_of (parameter_of a.area.now (get_or p.codes at.i 0) (get_or p.styles at.i 0) (get_or p.names at.i 0) (pair_of v))) c.new-in-loop-i.ensures)
@@ -40,5 +40,5 @@ unfolding value_cells
 returns c =
     let a = c.args in
     let at = c.loop-i in
-    writing_end a.area.now a.params a.function a.out.now _ at.out at.i at.invariant c.loop-i-test.false c.requires.1
+    writing_end a.area.now a.params.now a.function a.out.now _ at.out at.i at.invariant c.loop-i-test.false c.requires.1
     (c.put.ensures ∙ ap (λ p. stored a.out.now 0 (value_cells (pair_of p))) c.new.ensures)

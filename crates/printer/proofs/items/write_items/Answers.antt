@@ -8,27 +8,26 @@ use Rattle.printer.proofs.items.write_items.Goals as goal
 pub loop-i-init : goal.loop-i-init
 loop-i-init c =
     let a = c.args in
-    (search rules, refl, items_none (style_of a.style) a.area.now a.params a.line a.out.now c.requires.2)
+    (refl, items_none (style_of a.style) a.area.now a.params.now a.line a.out.now c.requires.2)
 
 pub write_parameter-end-requires : goal.write_parameter-end-requires
 write_parameter-end-requires c =
     let a = c.args in (
       search rules,
       c.requires.1,
-      items_room (style_of a.style) a.area.now a.params a.line a.out.now c.requires.2 c.loop-i.i c.loop-i-test.true
-          c.loop-i.out c.loop-i.end c.loop-i.invariant.2,
+      items_room (style_of a.style) a.area.now a.params.now a.line a.out.now c.requires.2 c.loop-i.i c.loop-i-test.true
+          c.loop-i.out c.loop-i.end c.loop-i.invariant.1,
     )
 
 pub loop-i-preserved : goal.loop-i-preserved
 loop-i-preserved c =
     let a = c.args in (
       search rules,
-      search rules,
-      items_more (style_of a.style) a.area.now a.params a.line a.out.now c.requires.2 c.loop-i.i c.loop-i-test.true
-          c.loop-i.out c.loop-i.end c.loop-i.invariant.2 _ _ c.write_parameter-end.ensures,
+      items_more (style_of a.style) a.area.now a.params.now a.line a.out.now c.requires.2 c.loop-i.i c.loop-i-test.true
+          c.loop-i.out c.loop-i.end c.loop-i.invariant.1 _ _ c.write_parameter-end.ensures,
     )
 
 pub returns : goal.returns
 returns c =
     let a = c.args in
-    items_whole (style_of a.style) a.area.now a.params a.line a.out.now c.loop-i.i (omega arith) c.loop-i.out c.loop-i.end c.loop-i.invariant.2
+    items_whole (style_of a.style) a.area.now a.params.now a.line a.out.now c.loop-i.i (omega arith) c.loop-i.out c.loop-i.end c.loop-i.invariant.1

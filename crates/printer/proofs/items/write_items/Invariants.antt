@@ -1,7 +1,5 @@
--- `printer::items::write_items` meets its contract. The loop's invariant: the items of the parameters before i are written. The measure is
--- how many are left. Assumes nothing.
+-- `printer::items::write_items` meets its contract. The loop's invariant: the items of the parameters before i are written. Assumes nothing.
 use mathlib.Core.Path.{◌≡◌}
-use Prim.Native.Nat.{◌-◌, ◌≤◌}
 use lib.ListN.{length}
 use Rattle.rules.specs.Printed.{items_of}
 use Rattle.cells.specs.Listed.{listed}
@@ -12,7 +10,4 @@ use Rattle.printer.proofs.items.write_items.Given as goal
 
 abbrev pub invariant-loop-i : goal.invariant-loop-i
 invariant-loop-i l =
-    (l.i ≤ l.params.len) × (length l.out ≡ length l.initial.out) × Added (items_of (under (style_of l.style)) (listed (parameter_at l.area l.params) 0 l.i)) l.initial.end l.initial.out l.out l.end
-
-abbrev pub decreases-loop-i : goal.decreases-loop-i
-decreases-loop-i l = l.params.len - l.i
+    (length l.out ≡ length l.initial.out) × Added (items_of (under (style_of l.style)) (listed (parameter_at l.area l.params) 0 l.i)) l.initial.end l.initial.out l.out l.end

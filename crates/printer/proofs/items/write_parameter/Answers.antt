@@ -6,33 +6,32 @@ use Rattle.builder.specs.Params.{style_of, parameter_at}
 use Rattle.printer.specs.Items.{under}
 use Rattle.printer.proofs.LawsLine.{added_nothing, room_same, added_same}
 use Rattle.printer.proofs.LawsItems.{Under-at, items_miss, items_at}
-use borrow.Author.Tests.{not-true, not-false}
 use Rattle.printer.proofs.items.write_parameter.Goals as goal
 
 pub returns-then-not-is_under : goal.returns-then-not-is_under
 returns-then-not-is_under c =
     let a = c.args in
     let s = style_of a.style in
-    added_nothing (items_of (under s) (parameter_at a.area.now a.params a.i ∷ [])) a.line a.out.now
-    (items_miss (under s) (parameter_at a.area.now a.params a.i)
-    (Under-at s a.area.now a.params a.i c.requires.1 ∙ sym c.is_under.ensures ∙ not-true c.is_under.result c.if-not-is_under.true-raw))
+    added_nothing (items_of (under s) (parameter_at a.area.now a.params.now a.i ∷ [])) a.line a.out.now
+    (items_miss (under s) (parameter_at a.area.now a.params.now a.i)
+    (Under-at s a.area.now a.params.now a.i c.requires.1 ∙ sym c.is_under.ensures ∙ c.if-not-is_under.true))
     c.requires.2
 
 pub write_item-requires : goal.write_item-requires
 write_item-requires c =
     let a = c.args in
     let s = style_of a.style in
-    room_same (items_of (under s) (parameter_at a.area.now a.params a.i ∷ [])) _ a.line a.out.now
-    (items_at s a.area.now a.params a.i c.printed_name.result.now c.requires.1
-    (sym c.is_under.ensures ∙ not-false c.is_under.result c.if-not-is_under.false-raw) c.printed_name.ensures)
+    room_same (items_of (under s) (parameter_at a.area.now a.params.now a.i ∷ [])) _ a.line a.out.now
+    (items_at s a.area.now a.params.now a.i c.printed_name.result.now c.requires.1
+    (sym c.is_under.ensures ∙ c.if-not-is_under.false) c.printed_name.ensures)
     c.requires.2
 
 pub returns : goal.returns
 returns c =
     let a = c.args in
     let s = style_of a.style in
-    added_same _ (items_of (under s) (parameter_at a.area.now a.params a.i ∷ []))
+    added_same _ (items_of (under s) (parameter_at a.area.now a.params.now a.i ∷ []))
     (sym
-    (items_at s a.area.now a.params a.i c.printed_name.result.now c.requires.1
-    (sym c.is_under.ensures ∙ not-false c.is_under.result c.if-not-is_under.false-raw) c.printed_name.ensures))
+    (items_at s a.area.now a.params.now a.i c.printed_name.result.now c.requires.1
+    (sym c.is_under.ensures ∙ c.if-not-is_under.false) c.printed_name.ensures))
     c.write_item.ensures

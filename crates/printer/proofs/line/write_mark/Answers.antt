@@ -9,16 +9,16 @@ use Rattle.printer.proofs.line.write_mark.Goals as goal
 
 pub write_bytes-requires : goal.write_bytes-requires
 write_bytes-requires c =
-    omega (arith, c.requires, ap length (mark_left_out c.args.code c.in-2-to-3.if-code-lt2-own.false c.in-2-to-3.if-code-lt4-own.true))
+    omega (arith, c.requires, ap length (mark_left_out c.args.code (omega arith) (omega arith)))
 
 pub returns-in-2-to-3 : goal.returns-in-2-to-3
 returns-in-2-to-3 c =
-    put_same _ (mark_for c.args.code) (sym (mark_left_out c.args.code c.in-2-to-3.if-code-lt2-own.false c.in-2-to-3.if-code-lt4-own.true)) c.write_bytes.ensures
+    put_same _ (mark_for c.args.code) (sym (mark_left_out c.args.code (omega arith) (omega arith))) c.write_bytes.ensures
 
 pub returns-in_default : goal.returns-in_default
 returns-in_default c =
-    put_none (mark_for c.args.code) c.args.out.now c.args.at (mark_below c.args.code c.in_default.if-code-lt2-own.true) c.requires
+    put_none (mark_for c.args.code) c.args.out.now c.args.at (mark_below c.args.code (omega arith)) c.requires
 
 pub returns-in_default-2 : goal.returns-in_default-2
 returns-in_default-2 c =
-    put_none (mark_for c.args.code) c.args.out.now c.args.at (mark_above c.args.code c.in_default.if-code-lt4-own.false) c.requires
+    put_none (mark_for c.args.code) c.args.out.now c.args.at (mark_above c.args.code (omega arith)) c.requires

@@ -3,7 +3,6 @@ use mathlib.Core.Path.{sym, ap}
 use mathlib.Core.Bool.{cond}
 use mathlib.Core.List.{List, [], ◌∷◌}
 use Prim.Native.Nat.{ℕ}
-use borrow.Author.Tests.{not-true, not-false}
 use Rattle.printer.proofs.LawsLine.{added_nothing, room_same, added_same, sign_shown}
 use Rattle.printer.proofs.line.write_sign.Goals as goal
 
@@ -11,16 +10,16 @@ pub returns-then-not-shown : goal.returns-then-not-shown
 returns-then-not-shown c =
     let a = c.args in
     added_nothing (cond a.shown (a.sign.now ∷ []) []) a.line a.out.now
-    (ap {B = List (List ℕ)} (λ b. cond b (a.sign.now ∷ []) []) (not-true a.shown c.if-not-shown.true-raw)) c.requires
+    (ap {B = List (List ℕ)} (λ b. cond b (a.sign.now ∷ []) []) c.if-not-shown.true) c.requires
 
 pub write_item-requires : goal.write_item-requires
 write_item-requires c =
     let a = c.args in
     room_same (cond a.shown (a.sign.now ∷ []) []) _ a.line a.out.now
-    (sign_shown a.shown a.sign.now (not-false a.shown c.if-not-shown.false-raw)) c.requires
+    (sign_shown a.shown a.sign.now c.if-not-shown.false) c.requires
 
 pub returns : goal.returns
 returns c =
     let a = c.args in
     added_same _ (cond a.shown (a.sign.now ∷ []) [])
-    (sym (sign_shown a.shown a.sign.now (not-false a.shown c.if-not-shown.false-raw))) c.write_item.ensures
+    (sym (sign_shown a.shown a.sign.now c.if-not-shown.false)) c.write_item.ensures

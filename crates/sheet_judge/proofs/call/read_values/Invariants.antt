@@ -7,9 +7,8 @@ use Rattle.sheet_lines.specs.Header.{columns_of}
 use Rattle.sheet_judge.proofs.LawsValues.{CountedTo}
 use Rattle.sheet_judge.proofs.call.read_values.Given as goal
 
-abbrev pub invariant-loop-at : goal.invariant-loop-at
-invariant-loop-at l =
-    CountedTo (columns_of l.columns) l.input l.first l.from l.line l.at l.counts
+abbrev pub invariant-loop-end : goal.invariant-loop-end
+invariant-loop-end l = CountedTo (columns_of l.columns) l.input l.first l.from l.line l.at l.counts
 
-abbrev pub decreases-loop-at : goal.decreases-loop-at
-decreases-loop-at l = length l.input - l.at
+abbrev pub decreases-loop-end : goal.decreases-loop-end
+decreases-loop-end l = length l.input - l.at

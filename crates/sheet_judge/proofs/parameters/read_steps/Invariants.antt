@@ -8,9 +8,9 @@ use Rattle.sheet_lines.specs.Header.{columns_of}
 use Rattle.sheet_judge.proofs.LawsPassed.{Passed}
 use Rattle.sheet_judge.proofs.parameters.read_steps.Given as goal
 
-abbrev pub invariant-loop-at : goal.invariant-loop-at
-invariant-loop-at l =
+abbrev pub invariant-loop-end : goal.invariant-loop-end
+invariant-loop-end l =
     (l.rows ≤ 67) × Passed (parameter_row_right 64) (columns_of l.columns) l.input 2 l.from (l.rows + 2) l.at
 
-abbrev pub decreases-loop-at : goal.decreases-loop-at
-decreases-loop-at l = length l.input - l.at
+abbrev pub decreases-loop-end : goal.decreases-loop-end
+decreases-loop-end l = length l.input - l.at

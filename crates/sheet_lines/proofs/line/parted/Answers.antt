@@ -1,24 +1,18 @@
--- `sheet_lines::line::parted` meets its contract: each answer counts the cells by where the searches ended.
+-- `sheet_lines::line::parted` meets its contract: each answer counts the cells by where the line was parted.
 -- Assumes nothing.
-use mathlib.Core.Path.{refl}
-use native.Mathlib.Numerals.{add-one}
-use native.Mathlib.Omega.{arith}
-use Rattle.sheet_lines.proofs.LawsCells.{not_read, one_cell, two_cells, more_cells, three_read}
+use Rattle.sheet_lines.proofs.LawsCells.{one_cell, two_cells, more_cells, three_read}
 use Rattle.sheet_lines.proofs.line.parted.Goals as goal
 
-pub returns-then-first-to : goal.returns-then-first-to
-returns-then-first-to c = not_read _ _ _ _ _ refl (one_cell _ _ _ _ c.end_of-first.ensures c.if-first-to.true)
+pub returns-in_err-first : goal.returns-in_err-first
+returns-in_err-first c = rw c.from_residual.ensures (one_cell _ c.in_err-first.ensures)
 
-pub returns-then-second-to : goal.returns-then-second-to
-returns-then-second-to c =
-    let a = c.end_of-first in
-    not_read _ _ _ _ _ refl (two_cells _ _ _ _ a.ensures (omega arith) _ (rw add-one at c.end_of-second.ensures) c.if-second-to.true)
+pub returns-in_err-second : goal.returns-in_err-second
+returns-in_err-second c = rw c.from_residual-in_err-second.ensures (two_cells _ c.in_ok-first.ensures c.in_err-second.ensures)
 
-pub returns-then-third-to : goal.returns-then-third-to
-returns-then-third-to c =
-    not_read _ _ _ _ _ refl
-    (more_cells _ _ _ _ c.end_of-first.ensures (omega arith) _ (rw add-one at c.end_of-second.ensures) (omega arith) _ (rw add-one at c.end_of-third.ensures) (omega arith))
+pub returns-in-Some : goal.returns-in-Some
+returns-in-Some c = more_cells _ c.in_ok-first.ensures c.in_ok-second.ensures c.in-Some.ensures
 
-pub returns : goal.returns
-returns c =
-    three_read _ _ _ _ c.end_of-first.ensures (omega arith) _ (rw add-one at c.end_of-second.ensures) (omega arith) _ (rw add-one at c.end_of-third.ensures) (omega arith)
+pub returns-in-None : goal.returns-in-None
+returns-in-None c =
+    let e = three_read _ c.in_ok-first.ensures c.in_ok-second.ensures c.in-None.ensures in
+    (rw e, e)

@@ -1,32 +1,20 @@
-use mathlib.Core.Path.{sym, ap, ◌∙◌}
-use native.Mathlib.Omega.{arith}
-use borrow.Author.Rules.{rules}
-use Rattle.sheet_lines.specs.Piece.{piece}
-use Rattle.sheet_lines.specs.Word.{position_of}
-use Rattle.sheet_lines.proofs.LawsWord.{cells_all, position_none, position_here, position_next}
+-- `sheet_lines::word::position` meets its contract: the library's search over the parts of the line is the one over its cells.
+-- Assumes nothing.
+use Rattle.std.proofs.Common.{◌∙◌, ap, eqb, rules, tests}
+use Rattle.std.specs.List.{slice_split, position_from}
+use Rattle.std.proofs.lemmas.Iterator.Search.{position_from_yields_List}
+use Rattle.std.proofs.lemmas.Iterator.Splits.{YieldsList-from_slice_split}
+use Rattle.std.proofs.lemmas.Iterator.Adapters.{position_from-zero}
+use Rattle.rules.specs.Text.{same_bytes}
+use Rattle.sheet_lines.proofs.LawsWord.{parts_cells}
 use Rattle.sheet_lines.proofs.word.position.Goals as goal
-
-pub loop-at-init : goal.loop-at-init
-loop-at-init c =
-    let a = c.args in
-    (search rules, search rules, ap (position_of a.word.now a.first a.other) (cells_all a.line.now))
-
-pub returns-then-same : goal.returns-then-same
-unfolding piece
-returns-then-same c =
-    let a = c.args in
-    sym (position_here a.word.now c.loop-at.number a.other a.line.now c.loop-at.at c.end_of-end.result (omega arith) c.end_of-end.ensures (sym c.same.ensures ∙ c.if-same.true)) ∙ c.loop-at.invariant.2
-
-pub loop-at-preserved : goal.loop-at-preserved
-unfolding piece
-loop-at-preserved c =
-    let a = c.args in (
-      omega (arith, c.end_of-end.ensures.after),
-      omega (arith, c.end_of-end.ensures.within),
-      sym (position_next a.word.now c.loop-at.number a.other a.line.now c.loop-at.at c.end_of-end.result (omega arith) c.end_of-end.ensures (sym c.same.ensures ∙ c.if-same.false)) ∙ c.loop-at.invariant.2,
-    )
 
 pub returns : goal.returns
 returns c =
     let a = c.args in
-    sym (position_none a.word.now c.loop-at.number a.other a.line.now c.loop-at.at c.loop-at-test.false) ∙ c.loop-at.invariant.2
+    let test = same_bytes a.word.now in
+    position_from_yields_List test _ _ c.position.result c.position.ensures.ran
+    (YieldsList-from_slice_split _ (λ b. eqb b 44) a.line.now c.split.ensures.rest c.split.ensures.done c.split.ensures.closure (λ x b q k. search (rules, tests)))
+    (λ x b q k. search (rules, tests))
+    ∙ position_from-zero test (slice_split (λ b. eqb b 44) a.line.now)
+    ∙ ap (position_from test 0) (parts_cells a.line.now)

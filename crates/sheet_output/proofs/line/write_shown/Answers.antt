@@ -11,18 +11,18 @@ use Rattle.sheet_output.proofs.line.write_shown.Goals as goal
 pub write_value-requires : goal.write_value-requires
 write_value-requires c =
     let a = c.args in
-    record { at_in_bounds = search rules; printable = value_inside a.spec.now a.call.now a.kind a.payload _ (sym c.read_slot.ensures ∙ c.in-Is.is) }
+    record { at_in_bounds = search rules; printable = value_inside a.spec.now a.call.now a.kind a.payload _ (sym c.read_slot.ensures ∙ c.in-Some.is) }
 
-pub returns-in-Is : goal.returns-in-Is
-returns-in-Is c =
+pub returns-in-Some : goal.returns-in-Some
+returns-in-Some c =
     let a = c.args in
     put_same _ (shown_value a.spec.now a.call.now (value a.kind a.payload))
-    (value_shown a.spec.now a.call.now a.kind a.payload _ c.ranges.payload.fits (sym c.read_slot.ensures ∙ c.in-Is.is))
+    (value_shown a.spec.now a.call.now a.kind a.payload _ c.ranges.payload.fits (sym c.read_slot.ensures ∙ c.in-Some.is))
     c.write_value.ensures
 
-pub returns-in-Not : goal.returns-in-Not
-returns-in-Not c =
+pub returns-in-None : goal.returns-in-None
+returns-in-None c =
     let a = c.args in
     put_none (shown_value a.spec.now a.call.now (value a.kind a.payload)) a.out.now a.at
-    (sym (value_hidden a.spec.now a.call.now a.kind a.payload (sym c.read_slot.ensures ∙ c.in-Not.is)))
+    (sym (value_hidden a.spec.now a.call.now a.kind a.payload (sym c.read_slot.ensures ∙ c.in-None.is)))
     (omega (arith, c.requires, shown_value_length a.spec.now a.call.now (value a.kind a.payload)))

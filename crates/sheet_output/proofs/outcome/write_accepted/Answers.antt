@@ -24,7 +24,7 @@ write_remainders-last-requires c =
     let l = c.requires.0 in (
       (omega (arith, l.slots, l.star), omega (arith, l.star, l.named)),
       (omega (arith, l.slots, l.star), omega (arith, l.star, l.named)),
-      omega (arith, c.requires.1, l.star, l.named, heading_length, slots_most a.spec.now a.call.now a.list.params a.board.now a.counts l),
+      omega (arith, c.requires.1, l.star, l.named, heading_length, slots_most a.spec.now a.call.now a.list.now.params a.board.now a.counts l),
     )
 
 pub write_closing-requires : goal.write_closing-requires
@@ -37,12 +37,12 @@ write_closing-requires c =
       l.star,
       l.named,
       heading_length,
-      slots_most a.spec.now a.call.now a.list.params a.board.now a.counts l,
+      slots_most a.spec.now a.call.now a.list.now.params a.board.now a.counts l,
       c.write_remainders-last.ensures.upper_bound,
     )
 
 pub returns : goal.returns
 returns c =
     let a = c.args in
-    accepted_put a.spec.now a.call.now a.list.params a.board.now a.counts c.requires.0 a.out.now _ _ _ _ _ _ _ _ c.requires.1
+    accepted_put a.spec.now a.call.now a.list.now.params a.board.now a.counts c.requires.0 a.out.now _ _ _ _ _ _ _ _ c.requires.1
     c.write_heading-slots.ensures c.write_slots-rest.ensures c.write_remainders-last.ensures.put c.write_closing.ensures

@@ -7,4 +7,4 @@ pub returns : goal.returns
 returns c =
     let a = c.args in
     λ qs P N asked before ready.
-    put_same _ _ (outcome_shown_lem a.spec.now a.call.now a.list a.board.now a.answer qs P N asked before ready) c.write_ending.ensures
+    put_same _ _ (outcome_shown_lem a.spec.now a.call.now a.list.now a.board.now a.answer qs P N asked before ready) c.write_ending.ensures

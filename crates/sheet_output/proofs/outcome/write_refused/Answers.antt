@@ -9,7 +9,7 @@ use Rattle.sheet_output.proofs.LawsOutcome.{name_length}
 use Rattle.sheet_output.proofs.outcome.write_refused.Goals as goal
 
 pub write_refusal-requires : goal.write_refusal-requires
-write_refusal-requires c = let a = c.args in omega (arith, c.requires, ap length c.name_of.ensures.bytes, name_length a.spec.now a.call.now a.answer)
+write_refusal-requires c = let a = c.args in omega (arith, c.requires, ap length c.name_of.ensures.bytes, name_length a.spec.now a.call.now a.refusal)
 
 pub returns : goal.returns
 unfolding refused_shown

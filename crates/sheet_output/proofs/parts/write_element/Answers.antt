@@ -1,17 +1,22 @@
 -- `sheet_output::parts::write_element` meets its contract: the line of each sort. Assumes nothing.
-use mathlib.Core.Path.{ap, ap₂}
+use mathlib.Core.Path.{sym, ap, ap₂, ◌∙◌}
 use Rattle.cells.proofs.LawsOut.{put_same}
-use Rattle.sheet_output.specs.Parts.{star_line, star_line_at, named_line, named_line_at}
+use Rattle.sheet_output.specs.declared.parts.Sort.{Sort}
+use Rattle.sheet_output.specs.Parts.{star_line, star_line_at, named_line, named_line_at, element_line}
 use Rattle.sheet_output.proofs.parts.write_element.Goals as goal
 
-pub returns-then-named : goal.returns-then-named
-unfolding named_line_at
-returns-then-named c =
-    let a = c.args in
-    rw c.if-named.true (put_same _ _ (ap₂ (named_line a.spec.now a.call.now) c.pair_at.ensures c.pair_at-then-named.ensures) c.write_name.ensures)
-
-pub returns : goal.returns
+pub returns-in-Star : goal.returns-in-Star
 unfolding star_line_at
-returns c =
+returns-in-Star c =
     let a = c.args in
-    rw c.if-named.false (put_same _ _ (ap (star_line a.spec.now a.call.now) c.pair_at-2.ensures) c.write_star.ensures)
+    put_same _ _
+    (ap (star_line a.spec.now a.call.now) c.pair_at.ensures
+    ∙ sym (ap (λ (s : Sort). element_line s a.spec.now a.call.now a.board.now a.from a.k) c.in-Star.is)) c.write_star.ensures
+
+pub returns-in-Named : goal.returns-in-Named
+unfolding named_line_at
+returns-in-Named c =
+    let a = c.args in
+    put_same _ _
+    (ap₂ (named_line a.spec.now a.call.now) c.pair_at-in-Named.ensures c.pair_at-in-Named-2.ensures
+    ∙ sym (ap (λ (s : Sort). element_line s a.spec.now a.call.now a.board.now a.from a.k) c.in-Named.is)) c.write_name.ensures

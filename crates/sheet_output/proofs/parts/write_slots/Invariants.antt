@@ -1,15 +1,7 @@
--- `sheet_output::parts::write_slots` meets its contract. The loop's invariant: the lines before i are written. The measure is how many are left.
--- Assumes nothing.
-use mathlib.Core.Path.{◌≡◌}
-use Prim.Native.Nat.{◌-◌, ◌≤◌}
-use lib.ListN.{length}
+-- `sheet_output::parts::write_slots` meets its contract. The loop's invariant: the lines before i are written. Assumes nothing.
 use Rattle.cells.specs.Out.{Put}
 use Rattle.sheet_output.specs.Parts.{lines_to, slot_line_at}
 use Rattle.sheet_output.proofs.parts.write_slots.Given as goal
 
 abbrev pub invariant-loop-i : goal.invariant-loop-i
-invariant-loop-i l =
-    (l.i ≤ l.params.len) × (length l.out ≡ length l.initial.out) × Put (lines_to (slot_line_at l.spec l.call l.params l.board) l.i) l.at l.initial.out l.out l.end
-
-abbrev pub decreases-loop-i : goal.decreases-loop-i
-decreases-loop-i l = l.params.len - l.i
+invariant-loop-i l = Put (lines_to (slot_line_at l.spec l.call l.params l.board) l.i) l.at l.initial.out l.out l.end

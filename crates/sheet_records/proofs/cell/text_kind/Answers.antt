@@ -8,6 +8,6 @@ pub returns-then-keyed : goal.returns-then-keyed
 unfolding text_kind call_text
 returns-then-keyed c = rw c.if-keyed.true
 
-pub returns : goal.returns
+pub returns-else-keyed : goal.returns-else-keyed
 unfolding text_kind spec_text
-returns c = rw c.if-keyed.false
+returns-else-keyed c = rw c.if-keyed.false

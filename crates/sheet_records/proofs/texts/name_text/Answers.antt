@@ -1,27 +1,21 @@
--- `sheet_records::texts::name_text` meets its contract: each answer is one of the three texts that a name brings.
+-- `sheet_records::texts::name_text` meets its contract: each answer is one of the texts that a name brings.
 -- Assumes nothing.
-use mathlib.Core.Path.{ap, ◌∙◌}
-use Rattle.rules.specs.SheetValue.{read_cell}
+use mathlib.Core.Path.{refl, ◌∙◌}
 use Rattle.rules.specs.SheetRows.{entry}
-use Rattle.rules.specs.SheetRecords.{text_of}
 use Rattle.sheet_lines.specs.Row.{row_of}
 use Rattle.sheet_records.proofs.LawsCell.{part_told, name_plain, name_entry, name_other}
 use Rattle.sheet_records.proofs.texts.name_text.Goals as goal
-
-pub returns-then-not-keyed : goal.returns-then-not-keyed
-returns-then-not-keyed c =
-    let s = c.args in
-    c.name_of.ensures ∙ name_plain (row_of s.input.now s.row) s.keyed c.if-not-keyed.true
+use Rattle.sheet_records.proofs.texts.name_text.Goals.{else-keyed-via-then-keyed+else-is_part, else-keyed-via-else-keyed}
 
 pub returns-then-is_part : goal.returns-then-is_part
 returns-then-is_part c =
-    let s = c.args in
-    c.text_of.ensures
-    ∙ ap (λ b. text_of (read_cell b)) c.name_of-then-is_part.ensures
-    ∙ name_entry (row_of s.input.now s.row) s.keyed c.if-not-keyed.false (part_told entry (row_of s.input.now s.row) c.part_of.result.now c.is_part.result c.part_of.ensures c.is_part.ensures ∙ c.if-is_part.true)
+    let r = row_of c.args.row in
+    c.text_of.ensures ∙ name_entry r c.args.keyed c.if-keyed.true (part_told entry r r.part c.is_part.result refl c.is_part.ensures ∙ c.if-is_part.true)
 
 pub returns : goal.returns
 returns c =
-    let s = c.args in
-    c.name_of-2.ensures
-    ∙ name_other (row_of s.input.now s.row) s.keyed c.if-not-keyed.false (part_told entry (row_of s.input.now s.row) c.part_of.result.now c.is_part.result c.part_of.ensures c.is_part.ensures ∙ c.if-is_part.false)
+    let r = row_of c.args.row in
+    elim c.else-keyed.branch [
+      | else-keyed-via-then-keyed+else-is_part w ↦ name_other r c.args.keyed w.if-keyed.true (part_told entry r r.part w.is_part.result refl w.is_part.ensures ∙ w.if-is_part.false)
+      | else-keyed-via-else-keyed w ↦ name_plain r c.args.keyed w.if-keyed.false
+    ]

@@ -1,6 +1,6 @@
 -- `sheet_records::texts::write_row_texts` meets its contract: the text of a row's name, and its value's behind it.
 -- Assumes nothing.
-use mathlib.Core.Path.{sym, ap, subst, ◌∙◌}
+use mathlib.Core.Path.{sym, subst}
 use Prim.Native.Nat.{◌+◌, ◌≤◌}
 use lib.ListN.{length}
 use Rattle.rules.specs.SheetValue.{read_cell}
@@ -14,22 +14,22 @@ pub write_bytes-start-requires : goal.write_bytes-start-requires
 unfolding row_texts
 write_bytes-start-requires c =
     let a = c.args in
-    let r = row_of a.input.now a.row in
-    subst (λ b. a.at + length b ≤ length a.area.now) (sym c.name_text-name.ensures) (put_front (name_text a.keyed r) (text_of (read_cell r.value)) a.at a.area.now c.requires.1)
+    let r = row_of a.row in
+    subst (λ b. a.at + length b ≤ length a.area.now) (sym c.name_text.ensures) (put_front (name_text a.keyed r) (text_of (read_cell r.value)) a.at a.area.now c.requires)
 
 pub write_bytes-requires : goal.write_bytes-requires
 unfolding row_texts
 write_bytes-requires c =
     let a = c.args in
-    let r = row_of a.input.now a.row in
-    subst (λ b. c.write_bytes-start.result + length b ≤ length c.write_bytes-start.new.out) (sym (c.text_of-value.ensures ∙ ap (λ b. text_of (read_cell b)) c.value_of.ensures))
-    (put_rest (name_text a.keyed r) (text_of (read_cell r.value)) a.at a.area.now c.requires.1 c.write_bytes-start.new.out c.write_bytes-start.result (put_same _ (name_text a.keyed r) c.name_text-name.ensures c.write_bytes-start.ensures))
+    let r = row_of a.row in
+    subst (λ b. c.write_bytes-start.result + length b ≤ length c.write_bytes-start.new.out) (sym (c.text_of.ensures))
+    (put_rest (name_text a.keyed r) (text_of (read_cell r.value)) a.at a.area.now c.requires c.write_bytes-start.new.out c.write_bytes-start.result (put_same _ (name_text a.keyed r) c.name_text.ensures c.write_bytes-start.ensures))
 
 pub returns : goal.returns
 unfolding row_texts
 returns c =
     let a = c.args in
-    let r = row_of a.input.now a.row in
-    put_then (name_text a.keyed r) (text_of (read_cell r.value)) a.at a.area.now c.requires.1 c.write_bytes-start.new.out c.write_bytes.new.out c.write_bytes-start.result c.write_bytes.result
-    (put_same _ (name_text a.keyed r) c.name_text-name.ensures c.write_bytes-start.ensures)
-    (put_same _ (text_of (read_cell r.value)) (c.text_of-value.ensures ∙ ap (λ b. text_of (read_cell b)) c.value_of.ensures) c.write_bytes.ensures)
+    let r = row_of a.row in
+    put_then (name_text a.keyed r) (text_of (read_cell r.value)) a.at a.area.now c.requires c.write_bytes-start.new.out c.write_bytes.new.out c.write_bytes-start.result c.write_bytes.result
+    (put_same _ (name_text a.keyed r) c.name_text.ensures c.write_bytes-start.ensures)
+    (put_same _ (text_of (read_cell r.value)) (c.text_of.ensures) c.write_bytes.ensures)

@@ -1,6 +1,6 @@
 -- `sheet_values::print::write_whole` meets its contract. Assumes nothing.
 use mathlib.Core.List.{◌∷◌}
-use Prim.Native.Nat.{◌+◌, ◌-◌, ◌^◌}
+use native.Mathlib.Omega.{arith}
 use Rattle.rules.specs.SheetValue.{decimal, print_whole}
 use Rattle.cells.proofs.LawsOut.{put_same}
 use Rattle.sheet_values.proofs.LawsPrint.{whole_from_zero, whole_below_zero}
@@ -14,5 +14,7 @@ returns-then-payload-lt9223372036854775808 c =
 pub returns : goal.returns
 returns c =
     let p = c.args.payload in
-    put_same (105 ∷ 45 ∷ decimal (2 ^ 64 - 1 - p + 1)) (105 ∷ print_whole p) (whole_below_zero p c.if-payload-lt9223372036854775808.false c.ranges.payload.fits)
+    let r = c.wrapping_neg.result in
+    put_same (105 ∷ 45 ∷ decimal r) (105 ∷ print_whole p)
+    (whole_below_zero p r c.if-payload-lt9223372036854775808.false c.ranges.payload.fits (omega arith) c.wrapping_neg.ensures)
     c.write_number-2.ensures

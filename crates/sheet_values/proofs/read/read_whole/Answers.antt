@@ -1,22 +1,27 @@
 -- `sheet_values::read::read_whole` meets its contract: `-` in front or not. Assumes nothing.
 use mathlib.Core.Path.{sym, ap, ◌∙◌}
 use Prim.Native.Nat.{◌+◌, ◌^◌}
+use native.Mathlib.Omega.{arith}
 use Rattle.rules.specs.SheetValue.{read_decimal}
-use Rattle.sheet_values.specs.Read.{negated}
-use Rattle.sheet_values.proofs.LawsCell.{lent_rest}
-use Rattle.sheet_values.proofs.LawsRead.{whole_empty, whole_unsigned, whole_negative}
+use Rattle.sheet_values.specs.Read.{number_of, negated}
+use Rattle.sheet_values.proofs.LawsRead.{whole_unsigned, whole_negative, twos_complement}
 use Rattle.sheet_values.proofs.read.read_whole.Goals as goal
 
-pub returns-then-digits-eq0 : goal.returns-then-digits-eq0
-returns-then-digits-eq0 c = sym (whole_empty c.args.digits.now c.if-digits-eq0.true)
+pub returns-in_default : goal.returns-in_default
+returns-in_default c =
+    c.read_decimal.ensures ∙ sym (whole_unsigned c.args.digits.now c.in_default.ensures.cases)
 
-pub returns-then-digits-ne45 : goal.returns-then-digits-ne45
-returns-then-digits-ne45 c =
-    c.read_decimal.ensures ∙ sym (whole_unsigned c.args.digits.now c.if-digits-eq0.false c.if-digits-ne45.true)
+pub returns-in_err-n : goal.returns-in_err-n
+returns-in_err-n c =
+    let minus = c.in-Some.ensures.cases in
+    ap number_of c.from_residual.ensures
+    ∙ ap negated (c.in_err-n.ensures ∙ ap (read_decimal (2 ^ 63 + 1)) minus.1)
+    ∙ sym (whole_negative c.args.digits.now minus.0)
 
 pub returns : goal.returns
 returns c =
-    let bs = c.args.digits.now in
-    c.negative.ensures
-    ∙ ap negated (c.read_decimal-number.ensures ∙ ap (read_decimal (2 ^ 63 + 1)) (lent_rest bs))
-    ∙ sym (whole_negative bs c.if-digits-eq0.false c.if-digits-ne45.false)
+    let minus = c.in-Some.ensures.cases in
+    ap number_of c.then_some.ensures
+    ∙ twos_complement c.in_ok-n.n c.wrapping_neg.result (omega arith) (omega arith) c.wrapping_neg.ensures
+    ∙ ap negated (c.in_ok-n.ensures ∙ ap (read_decimal (2 ^ 63 + 1)) minus.1)
+    ∙ sym (whole_negative c.args.digits.now minus.0)

@@ -1,25 +1,24 @@
 -- `sheet_values::read::under` meets its contract: what it requires says that reading the two cells gives a value. Assumes nothing.
-use mathlib.Core.Path.{sym, ap, ◌∙◌}
+use mathlib.Core.Path.{◌≡◌, ap, ◌∙◌}
 use mathlib.Core.Option.{some}
 use native.Mathlib.Omega.{arith}
-use Rattle.rules.specs.SheetValue.{under, written}
-use Rattle.sheet_values.specs.Read.{number_of, fitting}
-use Rattle.sheet_values.proofs.LawsCell.{under_value, under_never}
+use Rattle.std.specs.Prelude.{Some, None}
+use Rattle.rules.specs.SheetValue.{written}
+use Rattle.cells.specs.Value.{value_as, pair_of, cells_of}
+use Rattle.cells.specs.declared.value.Value.{Value}
+use Rattle.sheet_values.proofs.LawsCell.{under_read, under_cells}
 use Rattle.sheet_values.proofs.read.under.Goals as goal
 
-pub returns-in_default : goal.returns-in_default
-returns-in_default c = λ bytes. sym (ap (λ x. under c.args.kind (number_of x)) c.in_default.is)
+pub returns-in_err-read_argument : goal.returns-in_err-read_argument
+returns-in_err-read_argument c =
+    let none_is_some : None ≡ Some (value_as c.args.kind c.args.n) =
+    c.in_err-read_argument.ensures ∙ under_read c.args.kind c.args.n c.requires in
+    λ bytes. cc
 
-pub returns-in-Is-read_argument : goal.returns-in-Is-read_argument
-returns-in-Is-read_argument c =
-    let kind = c.args.kind in
-    let well = sym (ap (fitting kind) c.in-Is.is) ∙ c.requires in
-    λ bytes.
-    ap (λ x. some (written x)) (under_value kind c.in-Is.n well (omega arith) c.in-Is-read_argument.v (sym c.read_argument.ensures ∙ c.in-Is-read_argument.is))
-    ∙ sym (ap (λ x. under kind (number_of x)) c.in-Is.is)
-
-pub returns-in-Not : goal.returns-in-Not
-returns-in-Not c =
-    let kind = c.args.kind in
-    let well = sym (ap (fitting kind) c.in-Is.is) ∙ c.requires in
-    absurd (under_never kind c.in-Is.n well (sym c.read_argument.ensures ∙ c.in-Not.is))
+pub returns : goal.returns
+returns c =
+    let a = c.args in
+    let some_value : Some c.in_ok-read_argument.field-0 ≡ Some (value_as a.kind a.n) =
+    c.in_ok-read_argument.ensures ∙ under_read a.kind a.n c.requires in
+    let same : c.in_ok-read_argument.field-0 ≡ value_as a.kind a.n = cc in
+    λ bytes. ap (λ (v : Value). some (written (pair_of (cells_of v)))) same ∙ ap (λ p. some (written p)) (under_cells a.kind a.n c.requires (omega arith))

@@ -1,17 +1,14 @@
-use mathlib.Core.Path.{◌≡◌}
-use Prim.Native.Nat.{◌-◌, ◌≤◌}
-use lib.ListN.{length}
+-- `slots::slots::write_slots` meets its contract: the first k slots are written and counted, and no more are counted than are written.
+-- Assumes nothing.
+use Prim.Native.Nat.{◌≤◌}
 use Rattle.calls.specs.Head.{head_of}
 use Rattle.slots.specs.Slots.{slots_of, Filling}
 use Rattle.slots.proofs.slots.write_slots.Given as goal
 
 abbrev pub invariant-loop-k : goal.invariant-loop-k
 invariant-loop-k l =
-    (l.k ≤ l.len)
-    × (l.taken ≤ l.k)
-    × (l.defaulted ≤ l.k)
-    × (length l.board ≡ length l.initial.board)
-    × Filling (slots_of l.codes l.kinds l.payloads l.sources l.cells (head_of l.h) l.next l.star l.named l.k) l.initial.board l.board (record { taken = l.taken; defaulted = l.defaulted })
-
-abbrev pub decreases-loop-k : goal.decreases-loop-k
-decreases-loop-k l = l.len - l.k
+    record {
+      taken : l.taken ≤ l.k;
+      defaulted : l.defaulted ≤ l.k;
+      filling : Filling (slots_of l.params l.sources l.cells (head_of l.h) l.next l.star l.named l.k) l.initial.board l.board (record { taken = l.taken; defaulted = l.defaulted });
+    }

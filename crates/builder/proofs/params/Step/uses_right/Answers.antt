@@ -7,12 +7,12 @@ use Rattle.builder.specs.Params.{step_of}
 use Rattle.builder.proofs.LawsRecord.{uses_2, uses_3, uses_7, uses_below, uses_above}
 use Rattle.builder.proofs.params.Step.uses_right.Goals as goal
 
-pub returns-then-self-ne0 : goal.returns-then-self-ne0
-returns-then-self-ne0 c =
+pub returns-else-self-eq0 : goal.returns-else-self-eq0
+returns-else-self-eq0 c =
     let a = c.args in
     sym
     (uses_7 a.self a.area.now (omega arith) (omega arith)
-    ∙ rw (ne_eqb a.self.name 0 c.if-self-ne0.true))
+    ∙ rw (ne_eqb a.self.name 0 c.if-self-eq0.false))
 
 pub returns-in-3 : goal.returns-in-3
 unfolding step_of
@@ -25,13 +25,13 @@ returns-in-1-to-2 c =
     let a = c.args in
     c.no_default.ensures ∙ sym (uses_2 a.self a.area.now (omega arith) (omega arith))
 
-pub returns-else-self-ne0 : goal.returns-else-self-ne0
-returns-else-self-ne0 c =
+pub returns-then-self-eq0 : goal.returns-then-self-eq0
+returns-then-self-eq0 c =
     let a = c.args in
-    c.no_default-in-4-to-7.ensures
+    c.no_default-then-self-eq0.ensures
     ∙ sym
     (uses_7 a.self a.area.now (omega arith) (omega arith)
-    ∙ rw (eq-eqb a.self.name 0 c.if-self-ne0.false))
+    ∙ rw (eq-eqb a.self.name 0 c.if-self-eq0.true))
 
 pub returns-in_default : goal.returns-in_default
 returns-in_default c =

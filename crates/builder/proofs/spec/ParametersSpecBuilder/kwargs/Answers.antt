@@ -18,9 +18,8 @@ returns c =
     let b = c.args.self in
     let s = c.args.s in
     let pre = c.requires in
-    let p = c.push-pushed.ensures in
+    let p = c.push.ensures in
     λ area.
-    rw c.with.ensures
-    (adding_kwargs area b _ s (act_code s 7 pre.0) pre.1 c.if-index-ge-CAPACITY.false
-    (record { len = p.longer.len; list = p.longer.list })
-    p.positional_only p.positional refl refl refl)
+    adding_kwargs area b _ s (act_code s 7 pre.0) pre.1 c.if-index-ge-CAPACITY.false
+    p.longer
+    p.positional_only p.positional refl p.args refl

@@ -9,17 +9,18 @@ use Rattle.builder.proofs.spec.ParametersSpecBuilder.new.Goals as goal
 pub returns : goal.returns
 unfolding parameters_in positional_only_count positional_count args_index kwargs_index
 returns c =
+    let none = c.new.ensures in
     record {
       style = refl;
-      list = λ area. refl;
+      list = λ area. rw none;
       built = λ area.
           record {
-            room = omega arith;
-            positional_only = refl;
-            positional = refl;
+            room = rw none (omega arith);
+            positional_only = rw none;
+            positional = rw none;
             within = omega arith;
-            args = refl;
-            kwargs = refl;
-            sofar = (refl, refl, refl, refl);
+            args = rw none;
+            kwargs = rw none;
+            sofar = (rw none, rw none, refl, refl);
           };
     }

@@ -9,6 +9,7 @@ use Rattle.builder.proofs.LawsSpec.{refused_code, refused_plain, refused_star, r
 use Rattle.builder.proofs.spec.ParametersSpecBuilder.step.Goals as goal
 use Rattle.builder.proofs.spec.ParametersSpecBuilder.step.Goals.{in_default-via-then-code-lt1, in_default-via-else-code-lt1+else-code-lt4+else-code-lt7}
 
+-- written out, so that a `/` under another style fails here, by name
 pub no_more_positional_only_args-requires : goal.no_more_positional_only_args-requires
 no_more_positional_only_args-requires c = cc
 
@@ -59,9 +60,6 @@ returns-in-NoMore-style c =
     let a = c.args in
     rw c.refused-in-NoMore-style.ensures
     (refused_code a.area.now a.self a.s 7 NoMore c.in-7.is c.in-NoMore-style.is refl)
-
-pub returns-in-PosOnly-style-2 : goal.returns-in-PosOnly-style-2
-returns-in-PosOnly-style-2 c = c.add.ensures
 
 pub returns-in-NoMore-style-2 : goal.returns-in-NoMore-style-2
 returns-in-NoMore-style-2 c =

@@ -13,23 +13,23 @@ unfolding row_in
 returns-then-not-may_stand c =
     let a = c.args in
     let r = row_in a.self in
-    right_stands a.area.now r (c.may_stand.ensures r.step.default) c.if-not-may_stand.true-raw
+    right_stands a.area.now r (c.may_stand.ensures r.step.default) c.if-not-may_stand.true
 
 pub returns-then-not-uses_right : goal.returns-then-not-uses_right
 unfolding row_in step_of
 returns-then-not-uses_right c =
     let a = c.args in
     let r = row_in a.self in
-    right_uses a.area.now r (c.may_stand.ensures r.step.default) c.if-not-may_stand.false-raw
-    (c.uses_right.ensures ∙ ap (λ s. uses_right a.area.now (act s) s.name s.default) c.step-step.ensures) c.if-not-uses_right.true-raw
+    right_uses a.area.now r (c.may_stand.ensures r.step.default) c.if-not-may_stand.false
+    (c.uses_right.ensures ∙ ap (λ s. uses_right a.area.now (act s) s.name s.default) c.step-step.ensures) c.if-not-uses_right.true
 
 pub returns-then-self-lt4 : goal.returns-then-self-lt4
 unfolding row_in step_of
 returns-then-self-lt4 c =
     let a = c.args in
     let r = row_in a.self in
-    right_name a.area.now r (c.may_stand.ensures r.step.default) c.if-not-may_stand.false-raw
-    (c.uses_right.ensures ∙ ap (λ s. uses_right a.area.now (act s) s.name s.default) c.step-step.ensures) c.if-not-uses_right.false-raw
+    right_name a.area.now r (c.may_stand.ensures r.step.default) c.if-not-may_stand.false
+    (c.uses_right.ensures ∙ ap (λ s. uses_right a.area.now (act s) s.name s.default) c.step-step.ensures) c.if-not-uses_right.false
     c.if-self-lt4.true c.name_right.ensures
 
 pub returns : goal.returns
@@ -37,6 +37,6 @@ unfolding row_in step_of
 returns c =
     let a = c.args in
     let r = row_in a.self in
-    right_key a.area.now r (c.may_stand.ensures r.step.default) c.if-not-may_stand.false-raw
-    (c.uses_right.ensures ∙ ap (λ s. uses_right a.area.now (act s) s.name s.default) c.step-step.ensures) c.if-not-uses_right.false-raw
+    right_key a.area.now r (c.may_stand.ensures r.step.default) c.if-not-may_stand.false
+    (c.uses_right.ensures ∙ ap (λ s. uses_right a.area.now (act s) s.name s.default) c.step-step.ensures) c.if-not-uses_right.false
     c.if-self-lt4.false c.key_of.ensures

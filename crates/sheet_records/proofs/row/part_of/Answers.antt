@@ -1,9 +1,0 @@
--- `sheet_records::row::part_of` meets its contract: a piece of the input.
--- Assumes nothing.
-use mathlib.Core.Path.{refl}
-use Rattle.sheet_lines.specs.Piece.{piece}
-use Rattle.sheet_records.proofs.row.part_of.Goals as goal
-
-pub returns : goal.returns
-unfolding piece
-returns c = refl
