@@ -24,9 +24,6 @@ pub empty_test : (cell : List ℕ) → is_empty cell ≡ eqb (length cell) 0
 empty_test [] = refl
 empty_test (b ∷ bs) = sym (ne_eqb (suc (length bs)) 0 (λ e. omega arith))
 
-pub empty_yes : (cell : List ℕ) → length cell ≡ 0 → is_empty cell ≡ true
-empty_yes cell e = empty_test cell ∙ rw e
-
 pub empty_no : (cell : List ℕ) → (length cell ≡ 0 → ⊥) → is_empty cell ≡ false
 empty_no cell n = empty_test cell ∙ ne_eqb (length cell) 0 n
 

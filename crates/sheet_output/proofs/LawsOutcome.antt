@@ -20,7 +20,7 @@ use Rattle.std.specs.Prelude.{Err}
 use Rattle.answers.specs.declared.answer.Refusal.{Refusal}
 use Rattle.answers.specs.declared.answer.Refusal.TheVariants.{Record, ArgsArrayIsNotIterable, RepeatedParameter, KwArgsIsNotDict, ArgsValueIsNotString, RepeatedArg, MissingPositionalOnly, Missing, MissingNamedOnly, ExtraPositionalArg, ExtraNamedArg}
 use Rattle.sheet_output.specs.Parts.{lines_to, slot_line_at, stars, names, remainder_text}
-use Rattle.sheet_output.specs.Outcome.{heading, count_line, closing, refused_cells, refused_shown, refusal_shown, accepted_shown, Limits}
+use Rattle.sheet_output.specs.Outcome.{heading, count_line, closing, refused_cells, accepted_shown, Limits}
 use Rattle.sheet_output.proofs.LawsLine.{put_both}
 use Rattle.sheet_output.proofs.LawsParts.{lines_length, slot_short, remainder_length}
 
@@ -83,20 +83,6 @@ name_length spec call (Missing name) = part_length spec name
 name_length spec call (MissingNamedOnly name) = part_length spec name
 name_length spec call (ExtraPositionalArg n) = omega arith
 name_length spec call (ExtraNamedArg n name) = part_length call name
-
--- a refusal that is not for values that are left over is shown with its name
-pub refusal_named : (spec call : List ℕ) (r : Refusal) → ((n : ℕ) → r ≡ ExtraPositionalArg n → ⊥) → refused_shown spec call r ≡ refusal_shown spec call r
-refusal_named spec call (Record q) h = refl
-refusal_named spec call ArgsArrayIsNotIterable h = refl
-refusal_named spec call (RepeatedParameter name) h = refl
-refusal_named spec call KwArgsIsNotDict h = refl
-refusal_named spec call ArgsValueIsNotString h = refl
-refusal_named spec call (RepeatedArg name) h = refl
-refusal_named spec call (MissingPositionalOnly name) h = refl
-refusal_named spec call (Missing name) h = refl
-refusal_named spec call (MissingNamedOnly name) h = refl
-refusal_named spec call (ExtraPositionalArg n) h = absurd (h n refl)
-refusal_named spec call (ExtraNamedArg n name) h = refl
 
 -- ---- an accepted call's text, put part by part
 

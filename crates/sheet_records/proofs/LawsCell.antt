@@ -1,35 +1,17 @@
--- What a cell of a row becomes (01, sheets; cells, texts and records): a text's bytes are those behind its first, a value's two cells are its
--- own, which text a row's name brings, and which cells a row does.
--- Assumes nothing.
+-- A row of a sheet and the cells that it becomes (01, sheets; cells, texts and records): whether its part is the wanted one, which text its name
+-- brings, and which cells it does. Assumes nothing.
 use mathlib.Core.Path.{◌≡◌, sym, ap, ◌∙◌}
 use mathlib.Core.Bool.{Bool, true, false, not, ◌||◌}
-use mathlib.Core.List.{List, [], ◌∷◌, ◌++◌}
-use mathlib.Core.Option.{some}
-use Prim.Native.Nat.{ℕ, ◌-◌, ◌≤◌}
-use native.Mathlib.Omega.{arith}
+use mathlib.Core.List.{List, [], ◌++◌}
+use Prim.Native.Nat.{ℕ}
 use lib.Dec.{eqb}
-use lib.ListN.{length, take, drop, length-drop}
-use lib.Seq.{take_all}
-use Rattle.rules.specs.Text.{payload_of}
 use Rattle.rules.specs.Value.{value_cells}
 use Rattle.rules.specs.SheetLines.{Row}
-use Rattle.rules.specs.SheetValue.{quoted, read_cell}
+use Rattle.rules.specs.SheetValue.{read_cell}
 use Rattle.rules.specs.SheetRows.{CallPart, entry, call_part, part_number, is_part}
-use Rattle.rules.specs.SheetRecords.{text_of, value_at, key_text}
-use Rattle.cells.specs.Value.{value}
+use Rattle.rules.specs.SheetRecords.{text_of, key_text}
 use Rattle.sheet_records.specs.Text.{name_text}
 use Rattle.sheet_records.specs.Run.{key_cells, last_value, row_cells}
-
--- a text has its first byte
-pub text_some : (cell bytes : List ℕ) → some (quoted bytes) ≡ read_cell cell → 1 ≤ length cell
-text_some [] bytes e = let z : ◌≡◌ {A = ℕ} 0 1 = cc in absurd (omega arith)
-text_some (b ∷ bs) bytes e = omega arith
-
-pub text_bytes : (cell : List ℕ) → some (quoted (drop 1 cell)) ≡ read_cell cell → take (length cell - 1) (drop 1 cell) ≡ text_of (read_cell cell)
-text_bytes cell e = take_all (length cell - 1) (drop 1 cell) (simp length-drop (omega arith)) ∙ ap text_of e
-
-pub text_value : (kind at : ℕ) (cell : List ℕ) → some (quoted (drop 1 cell)) ≡ read_cell cell → value kind (payload_of at (length cell - 1)) ≡ value_at kind at (read_cell cell)
-text_value kind at cell e = ap (λ n. value kind (payload_of at n)) (sym (length-drop 1 cell)) ∙ ap (value_at kind at) e
 
 -- ---- a row's part
 

@@ -1,44 +1,18 @@
--- What a cell is by its first byte (01, sheets): the number that stands behind the byte fits its kind, and the value that is made of the two
--- has their cells. Assumes nothing.
-use mathlib.Core.Path.{◌≡◌, refl, sym, ap, ◌∙◌}
+-- What stands behind a cell's first byte (01, sheets): its number fits the kind, and the value that is made of the two has their cells.
+-- Assumes nothing.
+use mathlib.Core.Path.{◌≡◌, refl}
 use mathlib.Core.Bool.{Bool, true, false, cond, ◌&&◌}
-use mathlib.Core.List.{List, [], ◌∷◌}
+use mathlib.Core.List.{List, []}
 use mathlib.Core.Option.{none, some}
 use Rattle.std.specs.Prelude.{Some}
-use Prim.Native.Nat.{ℕ, ◌-◌, ◌<◌, ◌^◌}
+use Prim.Native.Nat.{ℕ, ◌<◌, ◌^◌}
 use native.Mathlib.Omega.{arith}
 use lib.Dec.{ltb}
-use lib.ListN.{length, take, drop, get_or, length-drop}
-use lib.Seq.{take_all}
-use borrow.Author.Tests.{ltb-true, lt-ltb, ne_eqb}
+use borrow.Author.Tests.{ltb-true, lt-ltb}
 use Rattle.rules.specs.Value.{well_formed, well_formed_argument, call_text}
-use Rattle.rules.specs.SheetValue.{number_from, is_shortest, read_decimal, read_form, read_cell}
+use Rattle.rules.specs.SheetValue.{number_from, is_shortest, read_decimal}
 use Rattle.cells.specs.Value.{value, pair_of, cells_of, value_of, value_as, read_argument}
 use Rattle.cells.proofs.LawsValue.{argument_cells}
-
-pub cell_form : (bs : List ℕ) → (length bs ≡ 0 → ⊥) → read_cell bs ≡ read_form (get_or bs 0 0) (drop 1 bs)
-cell_form [] h = absurd (h refl)
-cell_form (b ∷ bs) h = refl
-
--- what stands behind the first byte, as the code lends it
-pub lent_rest : (bs : List ℕ) → take (length bs - 1) (drop 1 bs) ≡ drop 1 bs
-lent_rest bs = take_all (length bs - 1) (drop 1 bs) (simp length-drop (omega arith))
-
-pub form_cell : (b : ℕ) (bs : List ℕ) → (length bs ≡ 0 → ⊥) → get_or bs 0 0 ≡ b → read_form b (take (length bs - 1) (drop 1 bs)) ≡ read_cell bs
-form_cell b bs h e = ap (read_form b) (lent_rest bs) ∙ ap (λ (x : ℕ). read_form x (drop 1 bs)) (sym e) ∙ sym (cell_form bs h)
-
--- a byte that is none of the six
-pub cell_other : (bs : List ℕ) → (length bs ≡ 0 → ⊥)
-    → (get_or bs 0 0 ≡ 110 → ⊥) → (get_or bs 0 0 ≡ 98 → ⊥) → (get_or bs 0 0 ≡ 105 → ⊥) → (get_or bs 0 0 ≡ 114 → ⊥) → (get_or bs 0 0 ≡ 115 → ⊥) → (get_or bs 0 0 ≡ 104 → ⊥)
-    → read_cell bs ≡ none
-unfolding read_form
-cell_other bs z n b i r s h =
-    let x = get_or bs 0 0 in
-    cell_form bs z ∙ rw (ne_eqb x 110 n, ne_eqb x 98 b, ne_eqb x 105 i, ne_eqb x 114 r, ne_eqb x 115 s, ne_eqb x 104 h)
-
-pub cell_empty : (bs : List ℕ) → length bs ≡ 0 → read_cell bs ≡ none
-cell_empty [] h = refl
-cell_empty (b ∷ bs) h = absurd (omega arith)
 
 -- ---- which numbers fit a kind
 
