@@ -5,6 +5,7 @@ use accessors::names_map::names_map;
 use accessors::no_named_args::no_named_args;
 use accessors::optional::{optional, positional};
 use accessors::positions::positions;
+use cells::record::Record;
 use replay::compare::{Place, fresh_board, same_board, same_name, same_numbers};
 use replay::numbers::{counted, front, piece, read_area, take};
 
@@ -22,14 +23,11 @@ pub fn play_call(numbers: &[u64], at: &mut usize, place: Place) -> bool {
     let cells = counted(numbers, at);
     let call = read_area(numbers, at);
     let given = read_given(numbers, at);
-    play_accessors(
-        numbers,
-        at,
-        place,
+    let record = Record {
         cells,
-        piece(&call.room, 0, call.len),
-        given,
-    )
+        area: piece(&call.room, 0, call.len),
+    };
+    play_accessors(numbers, at, place, &record, given)
 }
 
 fn read_given(numbers: &[u64], at: &mut usize) -> Given {
@@ -47,14 +45,13 @@ fn play_accessors(
     numbers: &[u64],
     at: &mut usize,
     place: Place,
-    cells: &[u64],
-    call: &[u8],
+    record: &Record,
     given: Given,
 ) -> bool {
     let mut same = true;
     for which in 0..6 {
         let here = place.at_part(which);
-        same &= play_one(numbers, at, here, which, cells, call, given);
+        same &= play_one(numbers, at, here, which, record, given);
     }
     same
 }
@@ -65,32 +62,30 @@ fn play_one(
     at: &mut usize,
     place: Place,
     which: u64,
-    cells: &[u64],
-    call: &[u8],
+    record: &Record,
     given: Given,
 ) -> bool {
     let mut out = fresh_board(given.fill);
-    let answer = access(which, cells, call, given, front(&mut out, given.len));
+    let answer = access(which, record, given, front(&mut out, given.len));
     let told = same_numbers(numbers, at, place, b"number", 4, told_by(answer));
-    let named = same_name(numbers, at, place, name_of(call, answer));
+    let named = same_name(numbers, at, place, name_of(record.area, answer));
     let kept = same_board(numbers, at, place, given.fill, &out);
     told & named & kept
 }
 
 fn access(
     which: u64,
-    cells: &[u64],
-    call: &[u8],
+    record: &Record,
     given: Given,
     out: &mut [u64],
 ) -> Result<usize, FunctionError> {
     match which {
-        0 => names_map(cells, call, out),
-        1 => positions(cells, call, out),
-        2 => len(cells, call),
-        3 => no_named_args(cells, call),
-        4 => optional(cells, call, given.required, given.more, out),
-        _ => positional(cells, call, given.positional, out),
+        0 => names_map(record, out),
+        1 => positions(record, out),
+        2 => len(record),
+        3 => no_named_args(record),
+        4 => optional(record, given.required, given.more, out),
+        _ => positional(record, given.positional, out),
     }
 }
 

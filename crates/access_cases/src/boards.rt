@@ -1,5 +1,6 @@
 // A walk of the slot reader over the slots that collection wrote on a board.
 use crate::walks::told_by;
+use cells::record::Record;
 use collector::collect::collect;
 use reader::{read_is_eof, read_next_opt};
 use replay::compare::{Place, fresh_board, same, same_numbers};
@@ -8,17 +9,19 @@ use std::num::wrapping_add_u64;
 
 pub fn play_board(numbers: &[u64], at: &mut usize, place: Place) -> bool {
     let spec_cells = counted(numbers, at);
-    let spec = read_area(numbers, at);
+    let spec_area = read_area(numbers, at);
+    let spec = Record {
+        cells: spec_cells,
+        area: piece(&spec_area.room, 0, spec_area.len),
+    };
     let call_cells = counted(numbers, at);
-    let call = read_area(numbers, at);
+    let call_area = read_area(numbers, at);
+    let call = Record {
+        cells: call_cells,
+        area: piece(&call_area.room, 0, call_area.len),
+    };
     let mut board = fresh_board(take(numbers, at));
-    let answer = collect(
-        spec_cells,
-        piece(&spec.room, 0, spec.len),
-        call_cells,
-        piece(&call.room, 0, call.len),
-        &mut board,
-    );
+    let answer = collect(&spec, &call, &mut board);
     let expected = counted(numbers, at);
     if answer.is_err() {
         return same(place, b"accepted", 1, 0);

@@ -1,5 +1,6 @@
 // One parameter list, printed.
 use cells::question::Question;
+use cells::record::Record;
 use printer::parameters_str;
 use replay::compare::{Place, same_numbers, same_output};
 use replay::numbers::{counted, front_bytes, piece, read_area, take};
@@ -12,13 +13,13 @@ const FILL: u8 = 165;
 pub fn play_list(numbers: &[u64], at: &mut usize, place: Place) -> bool {
     let cells = counted(numbers, at);
     let spec = read_area(numbers, at);
+    let record = Record {
+        cells,
+        area: piece(&spec.room, 0, spec.len),
+    };
     let len = take(numbers, at) as usize;
     let mut out = [FILL; OUT];
-    let printed = parameters_str(
-        cells,
-        piece(&spec.room, 0, spec.len),
-        front_bytes(&mut out, len),
-    );
+    let printed = parameters_str(&record, front_bytes(&mut out, len));
     let told = same_numbers(numbers, at, place, b"list", 2, told_by(printed));
     told & same_output(numbers, at, place, FILL, &out)
 }

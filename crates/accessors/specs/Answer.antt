@@ -1,12 +1,13 @@
 -- 01's number and values for each answer of an accessor, which numbers an answer can have, what an accessor promises, and the bytes of the name
 -- in a detail and where they lie.
-use Rattle.std.specs.Prelude.{Result, Ok, Err, ◌≡◌, Bool, true, ◌&&◌, ◌||◌, List, [], ℕ, leb, eqb}
+use Rattle.std.specs.Prelude.{Option, Some, None, Result, Ok, Err, ◌≡◌, Bool, true, ◌&&◌, ◌||◌, List, ℕ, leb, eqb}
 use Rattle.std.specs.Borrow.{Bor}
 use Rattle.rules.specs.Answer as rules
 use Rattle.rules.specs.Accessors.{Access, denied, gives, left_by}
-use Rattle.cells.specs.Text.{part_at, place_at}
 use Rattle.cells.specs.Question.{number_of}
-use Rattle.answers.specs.Answer.{place_of}
+use Rattle.answers.specs.Answer.{place_of, bytes_named, place_named}
+use Rattle.answers.specs.declared.detail.Name.{Name}
+use Rattle.answers.specs.declared.detail.Name.TheVariants.{Call}
 use Rattle.answers.specs.declared.answer.EntryRefusal.{EntryRefusal}
 use Rattle.answers.specs.declared.answer.EntryRefusal.TheVariants.{NotText, Repeated}
 use Rattle.accessors.specs.declared.answer.FunctionError.{FunctionError}
@@ -70,25 +71,20 @@ pub record Accessing (access : Access) (written before after : List ℕ) (r : Re
   pub answering : Answering access r
   pub output : after ≡ left_by access written before
 
--- what is said of the name in a refusal's detail, which stands in the call area, by its payload; `unnamed` where no name goes with the refusal
-abbrev pub of_named : {X : Type 0} → X → (ℕ → X) → FunctionError → X
-of_named unnamed in_call (Record q) = unnamed
-of_named unnamed in_call ArgsArrayIsNotIterable = unnamed
-of_named unnamed in_call KwArgsIsNotDict = unnamed
-of_named unnamed in_call ArgsValueIsNotString = unnamed
-of_named unnamed in_call (RepeatedArg name) = in_call name
-of_named unnamed in_call (ExtraNamedArg n name) = in_call name
-of_named unnamed in_call (WrongNumberOfArgs least most got) = unnamed
+-- the name in a refusal's detail, which stands in the call area
+abbrev pub error_name : FunctionError → Option Name
+error_name (Record q) = None
+error_name ArgsArrayIsNotIterable = None
+error_name KwArgsIsNotDict = None
+error_name ArgsValueIsNotString = None
+error_name (RepeatedArg name) = Some (Call name)
+error_name (ExtraNamedArg n name) = Some (Call name)
+error_name (WrongNumberOfArgs least most got) = None
 
--- the same of an answer
-abbrev pub of_name : {X : Type 0} → X → (ℕ → X) → Result ℕ FunctionError → X
-of_name unnamed in_call (Ok k) = unnamed
-of_name unnamed in_call (Err e) = of_named unnamed in_call e
-
--- its bytes
+-- the bytes of the name that goes with an answer
 abbrev pub name_in : List ℕ → Result ℕ FunctionError → List ℕ
-name_in call r = of_name [] (part_at call) r
+name_in call r = bytes_named error_name call call r
 
 -- where it begins in the call area; the area's own place where no name goes with the answer
 abbrev pub name_place : Bor (List ℕ) → Result ℕ FunctionError → ℕ × ℕ
-name_place call r = of_name call.ref_ptr (place_at call) r
+name_place call r = place_named error_name call call r

@@ -2,12 +2,13 @@
 // its errors; and the name in a refusal's detail.
 // Reworked from starlark 0.14.2, src/eval/runtime/arguments.rs, Apache-2.0.
 ghost use Rattle.std.specs.Prelude.{◌≡◌};
-ghost use Rattle.accessors.specs.Answer.{entry_denied, name_in, name_place};
+ghost use Rattle.accessors.specs.Answer.{entry_denied, error_name, name_in, name_place};
 ghost use Rattle.accessors.specs.declared.answer.FunctionError.TheVariants.{Record};
 
 use answers::answer::EntryRefusal;
+use answers::detail;
+use answers::detail::{Detail, Name};
 use cells::question::Question;
-use cells::text::part;
 
 // A name is the payload of a text in the call area.
 #[derive(Clone, Copy, Debug, PartialEq, Eq)]
@@ -47,22 +48,28 @@ impl From<EntryRefusal> for FunctionError {
     }
 }
 
+impl Detail for FunctionError {
+    ghost named = { error_name };
+
+    fn name(self) -> Option<Name> {
+        match self {
+            FunctionError::RepeatedArg(name) | FunctionError::ExtraNamedArg(_, name) => {
+                Some(Name::Call(name))
+            }
+            FunctionError::Record(_)
+            | FunctionError::ArgsArrayIsNotIterable
+            | FunctionError::KwArgsIsNotDict
+            | FunctionError::ArgsValueIsNotString
+            | FunctionError::WrongNumberOfArgs(_, _, _) => None,
+        }
+    }
+}
+
 // The bytes of the name that goes with an answer, as collection hands them back; none where no name goes with it.
 pub fn name_of<'a>(call: &'a [u8], answer: Result<usize, FunctionError>) -> &'a [u8]
     ensures bytes { result.now ≡ name_in call.now answer }
     ensures place { result.ref_ptr ≡ name_place call.entry answer }
 {
-    match answer {
-        Err(FunctionError::RepeatedArg(name) | FunctionError::ExtraNamedArg(_, name)) => {
-            part(call, name)
-        }
-        Ok(_)
-        | Err(
-            FunctionError::Record(_)
-            | FunctionError::ArgsArrayIsNotIterable
-            | FunctionError::KwArgsIsNotDict
-            | FunctionError::ArgsValueIsNotString
-            | FunctionError::WrongNumberOfArgs(_, _, _),
-        ) => &call[..0],
-    }
+    // no name stands in another area
+    detail::name_of(call, call, answer)
 }

@@ -5,14 +5,15 @@ ghost use Rattle.cells.specs.Question.{answer_of};
 
 use calls::ask_call;
 use cells::question::Question;
+use cells::record::Record;
 
 // The output is as long as a board, however little is written.
 pub const OUTPUT: usize = 896;
 
-pub(crate) fn ask_writing(cells: &[u64], area: &[u8], out: &[u64]) -> Result<(), Question>
-    ensures { answer_of result ≡ ask_writing 64 64 cells.now area.now out.now }
+pub(crate) fn ask_writing(record: &Record, out: &[u64]) -> Result<(), Question>
+    ensures { answer_of result ≡ ask_writing 64 64 record.now.cells.now record.now.area.now out.now }
 {
-    ask_call(cells, area)?;
+    ask_call(record)?;
     if out.len() < OUTPUT {
         return Err(Question::ShortBoard);
     }

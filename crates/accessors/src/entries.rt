@@ -16,71 +16,70 @@ ghost use Rattle.accessors.specs.Entries.{NamesInside, KeysFormed, word_read, en
 ghost use Rattle.answers.specs.declared.answer.EntryRefusal.TheVariants.{Repeated};
 
 use answers::answer::EntryRefusal;
-use calls::head::Head;
+use calls::head::Call;
 use calls::place::named_at;
 use cells::record::{key_at, pair_at};
 use cells::text::{part, same};
 use cells::value::Key;
 
 // 18 and 19 of all the entries, one entry after the other.
-pub(crate) fn ask_entries(cells: &[u64], area: &[u8], h: Head) -> Result<(), EntryRefusal>
-    requires { KeysFormed area.now cells.now (head_of h) × NamesInside area.now cells.now (head_of h) h.n }
-    ensures { entries_answer result ≡ ask_entries [] [] (names_in area.now cells.now (head_of h) h.n) (entries_in area.now cells.now (head_of h) 0 h.d) }
+pub(crate) fn ask_entries(call: &Call) -> Result<(), EntryRefusal>
+    requires { KeysFormed call.now.area.now call.now.cells.now (head_of call.now.head) × NamesInside call.now.area.now call.now.cells.now (head_of call.now.head) call.now.head.n }
+    ensures { entries_answer result ≡ ask_entries [] [] (names_in call.now.area.now call.now.cells.now (head_of call.now.head) call.now.head.n) (entries_in call.now.area.now call.now.cells.now (head_of call.now.head) 0 call.now.head.d) }
 {
+    let h = call.head;
     for k in 0..h.d {
-        ask_entry(cells, area, h, h.n + k)?;
+        ask_entry(call, h.n + k)?;
     }
     Ok(())
 }
 
 // 18 and 19 of the entry that is pair `count` of N.
-fn ask_entry(cells: &[u64], area: &[u8], h: Head, count: usize) -> Result<(), EntryRefusal>
-    requires { (well_formed_key area.now (pair_at cells.now (named_at 64 (head_of h) count)) ≡ true) × NamesInside area.now cells.now (head_of h) count }
-    ensures { entries_answer result ≡ ask_entry [] [] (names_in area.now cells.now (head_of h) count) (pair_entry area.now cells.now (head_of h) count).key }
+fn ask_entry(call: &Call, count: usize) -> Result<(), EntryRefusal>
+    requires { (well_formed_key call.now.area.now (pair_at call.now.cells.now (named_at 64 (head_of call.now.head) count)) ≡ true) × NamesInside call.now.area.now call.now.cells.now (head_of call.now.head) count }
+    ensures { entries_answer result ≡ ask_entry [] [] (names_in call.now.area.now call.now.cells.now (head_of call.now.head) count) (pair_entry call.now.area.now call.now.cells.now (head_of call.now.head) count).key }
 {
-    match key_at(area, cells, named_at(h, count)) {
-        Some(Key::Word(t)) => ask_name(cells, area, h, count, t.payload()),
+    match key_at(call.area, call.cells, named_at(call.head, count)) {
+        Some(Key::Word(t)) => ask_name(call, count, t.payload()),
         Some(Key::Number(_)) => Err(EntryRefusal::NotText),
         None => Err(EntryRefusal::NotText),
     }
 }
 
 // 19 of the text of a payload, after the first `count` names of N.
-fn ask_name(
-    cells: &[u64],
-    area: &[u8],
-    h: Head,
-    count: usize,
-    payload: u64,
-) -> Result<(), EntryRefusal>
-    requires { NamesInside area.now cells.now (head_of h) count }
-    ensures { result ≡ cond (among (part_at area.now payload) (texts_of (names_in area.now cells.now (head_of h) count))) (Err (Repeated payload)) (Ok tt) }
+fn ask_name(call: &Call, count: usize, payload: u64) -> Result<(), EntryRefusal>
+    requires { NamesInside call.now.area.now call.now.cells.now (head_of call.now.head) count }
+    ensures { result ≡ cond (among (part_at call.now.area.now payload) (texts_of (names_in call.now.area.now call.now.cells.now (head_of call.now.head) count))) (Err (Repeated payload)) (Ok tt) }
 {
-    if is_named(cells, area, h, count, part(area, payload)) {
+    if is_named(call, count, part(call.area, payload)) {
         return Err(EntryRefusal::Repeated(payload));
     }
     Ok(())
 }
 
 // Is a name one of the first `count` names of N? The Rust puts the names into a map; a plain search takes its place.
-fn is_named(cells: &[u64], area: &[u8], h: Head, count: usize, name: &[u8]) -> bool
-    requires { NamesInside area.now cells.now (head_of h) count }
-    ensures { result ≡ among name.now (texts_of (names_in area.now cells.now (head_of h) count)) }
+fn is_named(call: &Call, count: usize, name: &[u8]) -> bool
+    requires { NamesInside call.now.area.now call.now.cells.now (head_of call.now.head) count }
+    ensures { result ≡ among name.now (texts_of (names_in call.now.area.now call.now.cells.now (head_of call.now.head) count)) }
 {
-    (0..count).any(|k| same(name, part(area, pair_at(cells, named_at(h, k)).payload)))
+    (0..count).any(|k| {
+        let named = pair_at(call.cells, named_at(call.head, k));
+        same(name, part(call.area, named.payload))
+    })
 }
 
 // 18 of all the entries.
-pub(crate) fn keys_are_texts(cells: &[u64], area: &[u8], h: Head) -> bool
-    requires { KeysFormed area.now cells.now (head_of h) }
-    ensures { result ≡ all (λ e. is_word e.key) (entries_in area.now cells.now (head_of h) 0 h.d) }
+pub(crate) fn keys_are_texts(call: &Call) -> bool
+    requires { KeysFormed call.now.area.now call.now.cells.now (head_of call.now.head) }
+    ensures { result ≡ all (λ e. is_word e.key) (entries_in call.now.area.now call.now.cells.now (head_of call.now.head) 0 call.now.head.d) }
 {
-    (h.n..h.n + h.d).all(|k| is_text(cells, area, named_at(h, k)))
+    let h = call.head;
+    (h.n..h.n + h.d).all(|k| is_text(call, named_at(h, k)))
 }
 
 // Is what stands at a cell read as a text?
-fn is_text(cells: &[u64], area: &[u8], at: usize) -> bool
-    ensures { result ≡ word_read (key_at area.now cells.now at) }
+fn is_text(call: &Call, at: usize) -> bool
+    ensures { result ≡ word_read (key_at call.now.area.now call.now.cells.now at) }
 {
-    matches!(key_at(area, cells, at), Some(Key::Word(_)))
+    matches!(key_at(call.area, call.cells, at), Some(Key::Word(_)))
 }

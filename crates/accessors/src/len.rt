@@ -7,12 +7,13 @@ ghost use Rattle.accessors.specs.Answer.{Answering};
 use crate::answer::FunctionError;
 use calls::ask_call;
 use calls::head::read_head;
+use cells::record::Record;
 
-pub fn len(cells: &[u64], area: &[u8]) -> Result<usize, FunctionError>
-    ensures { Answering (rules.len 64 cells.now area.now) result }
+pub fn len(record: &Record) -> Result<usize, FunctionError>
+    ensures { Answering (rules.len 64 record.now.cells.now record.now.area.now) result }
 {
-    ask_call(cells, area)?;
-    let h = read_head(cells);
+    ask_call(record)?;
+    let h = read_head(record.cells);
     if h.star_kind == 2 {
         return Err(FunctionError::ArgsArrayIsNotIterable);
     }

@@ -13,34 +13,35 @@ ghost use Rattle.accessors.specs.Entries.{NamesText};
 use crate::answer::FunctionError;
 use crate::ask::ask_writing;
 use crate::entries::ask_entries;
-use calls::head::{Head, PAIR, VALUE, read_head};
+use calls::head::{Call, PAIR, VALUE};
 use calls::place::named_at;
 use cells::out::put;
-use cells::record::pair_at;
+use cells::record::{Record, pair_at};
 
-pub fn names_map(cells: &[u64], area: &[u8], out: &mut [u64]) -> Result<usize, FunctionError>
-    ensures { Accessing (rules.names_map 64 64 cells.now area.now out.old) (rules.names_map_cells cells.now area.now) out.old out.new result }
+pub fn names_map(record: &Record, out: &mut [u64]) -> Result<usize, FunctionError>
+    ensures { Accessing (rules.names_map 64 64 record.now.cells.now record.now.area.now out.old) (rules.names_map_cells record.now.cells.now record.now.area.now) out.old out.new result }
 {
-    ask_writing(cells, area, out)?;
-    let h = read_head(cells);
+    ask_writing(record, out)?;
+    let call = Call::new(record);
+    let h = call.head;
     if h.double_kind == 2 {
         return Err(FunctionError::KwArgsIsNotDict);
     }
-    ask_entries(cells, area, h)?;
+    ask_entries(&call)?;
     let count = h.n + h.d;
-    write_named(cells, h, count, out);
+    write_named(&call, count, out);
     Ok(count)
 }
 
 // The first `count` pairs of N, stored from cell 0 on.
-fn write_named(cells: &[u64], h: Head, count: usize, out: &mut [u64])
-    requires { NamesText cells.now (head_of h) count × (4 * count ≤ length out.old) }
-    ensures { (area : List ℕ) → out.new ≡ stored out.old 0 (write_each named_cells (names_in area cells.now (head_of h) count)) }
+fn write_named(call: &Call, count: usize, out: &mut [u64])
+    requires { NamesText call.now.cells.now (head_of call.now.head) count × (4 * count ≤ length out.old) }
+    ensures { (area : List ℕ) → out.new ≡ stored out.old 0 (write_each named_cells (names_in area call.now.cells.now (head_of call.now.head) count)) }
 {
     for k in 0..count {
-        let pair = named_at(h, k);
+        let pair = named_at(call.head, k);
         let to = PAIR * k;
-        put(out, to, pair_at(cells, pair));
-        put(out, to + VALUE, pair_at(cells, pair + VALUE));
+        put(out, to, pair_at(call.cells, pair));
+        put(out, to + VALUE, pair_at(call.cells, pair + VALUE));
     }
 }

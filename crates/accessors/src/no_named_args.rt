@@ -6,25 +6,26 @@ ghost use Rattle.accessors.specs.Answer.{Answering};
 use crate::answer::FunctionError;
 use crate::entries::keys_are_texts;
 use calls::ask_call;
-use calls::head::read_head;
+use calls::head::Call;
 use calls::place::named_at;
-use cells::record::pair_at;
+use cells::record::{Record, pair_at};
 
-pub fn no_named_args(cells: &[u64], area: &[u8]) -> Result<usize, FunctionError>
-    ensures { Answering (no_named_args 64 cells.now area.now) result }
+pub fn no_named_args(record: &Record) -> Result<usize, FunctionError>
+    ensures { Answering (no_named_args 64 record.now.cells.now record.now.area.now) result }
 {
-    ask_call(cells, area)?;
-    let h = read_head(cells);
+    ask_call(record)?;
+    let call = Call::new(record);
+    let h = call.head;
     if h.double_kind == 2 {
         return Err(FunctionError::KwArgsIsNotDict);
     }
-    if !keys_are_texts(cells, area, h) {
+    if !keys_are_texts(&call) {
         return Err(FunctionError::ArgsValueIsNotString);
     }
     let count = h.n + h.d;
     if count == 0 {
         return Ok(0);
     }
-    let first = pair_at(cells, named_at(h, 0));
+    let first = pair_at(call.cells, named_at(h, 0));
     Err(FunctionError::ExtraNamedArg(count, first.payload))
 }

@@ -6,28 +6,29 @@ ghost use Rattle.accessors.specs.Answer.{Accessing};
 
 use crate::answer::FunctionError;
 use crate::ask::ask_writing;
-use calls::head::{VALUE, read_head};
+use calls::head::{Call, VALUE};
 use calls::values::write_values;
 use cells::question::Question;
+use cells::record::Record;
 
 // The greatest number that either part may have.
 pub const MOST: usize = 64;
 
 // `required` positionals, and up to `more` behind them. A missing one is written as two cells that are 0.
 pub fn optional(
-    cells: &[u64],
-    area: &[u8],
+    record: &Record,
     required: usize,
     more: usize,
     out: &mut [u64],
 ) -> Result<usize, FunctionError>
-    ensures { Accessing (rules.optional 64 64 required more cells.now area.now out.old) (rules.optional_cells required more cells.now area.now) out.old out.new result }
+    ensures { Accessing (rules.optional 64 64 required more record.now.cells.now record.now.area.now out.old) (rules.optional_cells required more record.now.cells.now record.now.area.now) out.old out.new result }
 {
     if MOST < required || MOST < more {
         return Err(FunctionError::Record(Question::LargeNumbers));
     }
-    ask_writing(cells, area, out)?;
-    let h = read_head(cells);
+    ask_writing(record, out)?;
+    let call = Call::new(record);
+    let h = call.head;
     if h.star_kind == 2 {
         return Err(FunctionError::ArgsArrayIsNotIterable);
     }
@@ -36,44 +37,35 @@ pub fn optional(
     if got < required || most < got {
         return Err(FunctionError::WrongNumberOfArgs(required, most, got));
     }
-    write_values(cells, h, 0, got, 0, out);
+    write_values(&call, 0, got, 0, out);
     out[VALUE * got..VALUE * most].fill(0);
     Ok(got)
 }
 
 // Just `required` positionals.
-pub fn positional(
-    cells: &[u64],
-    area: &[u8],
-    required: usize,
-    out: &mut [u64],
-) -> Result<usize, FunctionError>
-    ensures { Accessing (rules.optional 64 64 required 0 cells.now area.now out.old) (rules.optional_cells required 0 cells.now area.now) out.old out.new result }
+pub fn positional(record: &Record, required: usize, out: &mut [u64]) -> Result<usize, FunctionError>
+    ensures { Accessing (rules.optional 64 64 required 0 record.now.cells.now record.now.area.now out.old) (rules.optional_cells required 0 record.now.cells.now record.now.area.now) out.old out.new result }
 {
-    optional(cells, area, required, 0, out)
+    optional(record, required, 0, out)
 }
 
 // No positional.
-pub fn no_positional_args(
-    cells: &[u64],
-    area: &[u8],
-    out: &mut [u64],
-) -> Result<usize, FunctionError>
-    ensures { Accessing (rules.optional 64 64 0 0 cells.now area.now out.old) (rules.optional_cells 0 0 cells.now area.now) out.old out.new result }
+pub fn no_positional_args(record: &Record, out: &mut [u64]) -> Result<usize, FunctionError>
+    ensures { Accessing (rules.optional 64 64 0 0 record.now.cells.now record.now.area.now out.old) (rules.optional_cells 0 0 record.now.cells.now record.now.area.now) out.old out.new result }
 {
-    positional(cells, area, 0, out)
+    positional(record, 0, out)
 }
 
 // One positional.
-pub fn positional1(cells: &[u64], area: &[u8], out: &mut [u64]) -> Result<usize, FunctionError>
-    ensures { Accessing (rules.optional 64 64 1 0 cells.now area.now out.old) (rules.optional_cells 1 0 cells.now area.now) out.old out.new result }
+pub fn positional1(record: &Record, out: &mut [u64]) -> Result<usize, FunctionError>
+    ensures { Accessing (rules.optional 64 64 1 0 record.now.cells.now record.now.area.now out.old) (rules.optional_cells 1 0 record.now.cells.now record.now.area.now) out.old out.new result }
 {
-    positional(cells, area, 1, out)
+    positional(record, 1, out)
 }
 
 // One positional or none.
-pub fn optional1(cells: &[u64], area: &[u8], out: &mut [u64]) -> Result<usize, FunctionError>
-    ensures { Accessing (rules.optional 64 64 0 1 cells.now area.now out.old) (rules.optional_cells 0 1 cells.now area.now) out.old out.new result }
+pub fn optional1(record: &Record, out: &mut [u64]) -> Result<usize, FunctionError>
+    ensures { Accessing (rules.optional 64 64 0 1 record.now.cells.now record.now.area.now out.old) (rules.optional_cells 0 1 record.now.cells.now record.now.area.now) out.old out.new result }
 {
-    optional(cells, area, 0, 1, out)
+    optional(record, 0, 1, out)
 }

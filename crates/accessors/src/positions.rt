@@ -5,18 +5,20 @@ ghost use Rattle.accessors.specs.Answer.{Accessing};
 
 use crate::answer::FunctionError;
 use crate::ask::ask_writing;
-use calls::head::read_head;
+use calls::head::Call;
 use calls::values::write_values;
+use cells::record::Record;
 
-pub fn positions(cells: &[u64], area: &[u8], out: &mut [u64]) -> Result<usize, FunctionError>
-    ensures { Accessing (rules.positions 64 64 cells.now area.now out.old) (rules.positions_cells cells.now area.now) out.old out.new result }
+pub fn positions(record: &Record, out: &mut [u64]) -> Result<usize, FunctionError>
+    ensures { Accessing (rules.positions 64 64 record.now.cells.now record.now.area.now out.old) (rules.positions_cells record.now.cells.now record.now.area.now) out.old out.new result }
 {
-    ask_writing(cells, area, out)?;
-    let h = read_head(cells);
+    ask_writing(record, out)?;
+    let call = Call::new(record);
+    let h = call.head;
     if h.star_kind == 2 {
         return Err(FunctionError::ArgsArrayIsNotIterable);
     }
     let got = h.p + h.s;
-    write_values(cells, h, 0, got, 0, out);
+    write_values(&call, 0, got, 0, out);
     Ok(got)
 }

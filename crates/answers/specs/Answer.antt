@@ -1,6 +1,6 @@
 -- 01's number and detail for each answer of collection, which numbers an answer can have, and the bytes of the name in a detail and where they
 -- lie.
-use Rattle.std.specs.Prelude.{Result, Ok, Err, Bool, true, false, ◌&&◌, ◌||◌, List, [], ℕ, leb}
+use Rattle.std.specs.Prelude.{Option, Some, None, Result, Ok, Err, Bool, true, ◌&&◌, ◌||◌, List, [], ℕ, leb}
 use Rattle.std.specs.Borrow.{Bor}
 use Rattle.rules.specs.Text.{start_of, size_of}
 use Rattle.rules.specs.Answer as rules
@@ -11,6 +11,8 @@ use Rattle.cells.specs.Question.{number_of}
 use Rattle.answers.specs.declared.answer.Counts.{Counts}
 use Rattle.answers.specs.declared.answer.Refusal.{Refusal}
 use Rattle.answers.specs.declared.answer.Refusal.TheVariants.{Record, ArgsArrayIsNotIterable, RepeatedParameter, KwArgsIsNotDict, ArgsValueIsNotString, RepeatedArg, MissingPositionalOnly, Missing, MissingNamedOnly, ExtraPositionalArg, ExtraNamedArg}
+use Rattle.answers.specs.declared.detail.Name.{Name}
+use Rattle.answers.specs.declared.detail.Name.TheVariants.{Spec, Call}
 use Rattle.answers.specs.declared.answer.EntryRefusal.{EntryRefusal}
 use Rattle.answers.specs.declared.answer.EntryRefusal.TheVariants.{NotText, Repeated}
 
@@ -86,35 +88,42 @@ abbrev pub answer_in : Result Counts Refusal → rules.Answer
 answer_in (Ok c) = rules.fine
 answer_in (Err r) = rules.refuse (refusal_number r) (refusal_detail r)
 
--- does an answer refuse?
-abbrev pub is_refusal : Result Counts Refusal → Bool
-is_refusal (Ok c) = false
-is_refusal (Err r) = true
+-- the name in a refusal's detail, by the area where it stands (01, the questions: the spec area for 16 and 20 to 22, the call area for 19 and 24)
+abbrev pub refusal_name : Refusal → Option Name
+refusal_name (Record q) = None
+refusal_name ArgsArrayIsNotIterable = None
+refusal_name (RepeatedParameter name) = Some (Spec name)
+refusal_name KwArgsIsNotDict = None
+refusal_name ArgsValueIsNotString = None
+refusal_name (RepeatedArg name) = Some (Call name)
+refusal_name (MissingPositionalOnly name) = Some (Spec name)
+refusal_name (Missing name) = Some (Spec name)
+refusal_name (MissingNamedOnly name) = Some (Spec name)
+refusal_name (ExtraPositionalArg n) = None
+refusal_name (ExtraNamedArg n name) = Some (Call name)
 
--- what is said of the name in a refusal's detail, by its payload and the area where it stands (01, the questions: the spec area for 16 and
--- 20 to 22, the call area for 19 and 24); `unnamed` where no name goes with the refusal
-abbrev pub of_named : {X : Type 0} → X → (ℕ → X) → (ℕ → X) → Refusal → X
-of_named unnamed in_spec in_call (Record q) = unnamed
-of_named unnamed in_spec in_call ArgsArrayIsNotIterable = unnamed
-of_named unnamed in_spec in_call (RepeatedParameter name) = in_spec name
-of_named unnamed in_spec in_call KwArgsIsNotDict = unnamed
-of_named unnamed in_spec in_call ArgsValueIsNotString = unnamed
-of_named unnamed in_spec in_call (RepeatedArg name) = in_call name
-of_named unnamed in_spec in_call (MissingPositionalOnly name) = in_spec name
-of_named unnamed in_spec in_call (Missing name) = in_spec name
-of_named unnamed in_spec in_call (MissingNamedOnly name) = in_spec name
-of_named unnamed in_spec in_call (ExtraPositionalArg n) = unnamed
-of_named unnamed in_spec in_call (ExtraNamedArg n name) = in_call name
+-- what is said of a name by its payload and the area where it stands; `unnamed` where there is none
+abbrev pub of_named : {X : Type 0} → X → (ℕ → X) → (ℕ → X) → Option Name → X
+of_named unnamed in_spec in_call None = unnamed
+of_named unnamed in_spec in_call (Some (Spec name)) = in_spec name
+of_named unnamed in_spec in_call (Some (Call name)) = in_call name
 
--- the same of an answer
-abbrev pub of_name : {X : Type 0} → X → (ℕ → X) → (ℕ → X) → Result Counts Refusal → X
-of_name unnamed in_spec in_call (Ok c) = unnamed
-of_name unnamed in_spec in_call (Err r) = of_named unnamed in_spec in_call r
+-- the same of the name that goes with an answer, where `named` has the name in a refusal's detail
+abbrev pub of_name : {T E X : Type 0} → (E → Option Name) → X → (ℕ → X) → (ℕ → X) → Result T E → X
+of_name named unnamed in_spec in_call (Ok c) = unnamed
+of_name named unnamed in_spec in_call (Err r) = of_named unnamed in_spec in_call (named r)
 
 -- its bytes
-abbrev pub name_bytes : List ℕ → List ℕ → Result Counts Refusal → List ℕ
-name_bytes spec call r = of_name [] (part_at spec) (part_at call) r
+abbrev pub bytes_named : {T E : Type 0} → (E → Option Name) → List ℕ → List ℕ → Result T E → List ℕ
+bytes_named named spec call r = of_name named [] (part_at spec) (part_at call) r
 
 -- where it begins in its area; the spec area's own place where no name goes with the answer
+abbrev pub place_named : {T E : Type 0} → (E → Option Name) → Bor (List ℕ) → Bor (List ℕ) → Result T E → ℕ × ℕ
+place_named named spec call r = of_name named spec.ref_ptr (place_at spec) (place_at call) r
+
+-- both of an answer of collection
+abbrev pub name_bytes : List ℕ → List ℕ → Result Counts Refusal → List ℕ
+name_bytes spec call r = bytes_named refusal_name spec call r
+
 abbrev pub name_place : Bor (List ℕ) → Bor (List ℕ) → Result Counts Refusal → ℕ × ℕ
-name_place spec call r = of_name spec.ref_ptr (place_at spec) (place_at call) r
+name_place spec call r = place_named refusal_name spec call r

@@ -3,6 +3,7 @@
 use mathlib.Core.Path.{◌≡◌, refl, sym, ap, ◌∙◌}
 use mathlib.Core.Bool.{true, false}
 use Rattle.std.specs.Prelude.{Result, Ok, Err, is_err}
+use Rattle.std.specs.Borrow.{Bor}
 use mathlib.Core.List.{List, [], ◌++◌, append_assoc, append-nil}
 use Prim.Native.Nat.{ℕ, ◌+◌, ◌-◌, ◌<◌, ◌≤◌}
 use native.Mathlib.Nat.{sub-zero}
@@ -94,7 +95,7 @@ module _ (cells area : List ℕ) (m : ℕ) where
 
 module _ (cells area : List ℕ) where
   pub none_built : (q : Question) → refused q ≡ ask_parameters 64 cells area → Building cells area (Err q)
-  none_built q e = record { answer = e; fine = λ l f. cc; within = λ l f. cc }
+  none_built q e = record { answer = e; fine = λ l f. cc; within = λ l f. cc; in_area = λ l f. cc }
 
   pub ask_1 : whole_steps 64 cells ≡ false → refused PartialStep ≡ ask_parameters 64 cells area
   unfolding ask_parameters
@@ -121,18 +122,19 @@ module _ (cells area : List ℕ) where
           ask_5 q e = sym (rw (one, two, three, four, ← taking.answer, e))
 
           -- the list of the last state, of which nothing more is asked: that its counts agree is the law of all step lists
-          pub all_passed : t.answer ≡ Ok tt → Building cells area (Ok (finished t.builder))
+          pub all_passed : (lent : Bor (List ℕ)) → lent.now ≡ area → t.answer ≡ Ok tt → Building cells area (Ok (finished lent t.builder))
           unfolding ask_parameters list_of parameters_of
-          all_passed e =
+          all_passed lent same e =
               record {
                 answer = sym (rw (one, two, three, four, ← taking.answer, e));
-                fine = λ l f. let is : l ≡ finished t.builder = cc in rw (is, ← taking.list e) is_list;
+                fine = λ l f. let is : l ≡ finished lent t.builder = cc in rw (is, ← taking.list e) is_list;
                 within = λ l f.
-                    let is : l ≡ finished t.builder = cc in
+                    let is : l ≡ finished lent t.builder = cc in
                     rw (is, taking.built.positional_only, taking.built.positional, taking.list e) ((step_counts area).only_within (read_parameters cells).steps);
+                in_area = λ l f. let is : l ≡ finished lent t.builder = cc in rw is same;
               }
             where
-              is_list : IsList area (finished t.builder) (list_in area t.builder)
+              is_list : IsList area (finished lent t.builder) (list_in area t.builder)
               is_list =
                   record {
                     room = taking.built.room;

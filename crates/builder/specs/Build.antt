@@ -38,3 +38,5 @@ pub record Building (cells area : List ℕ) (r : Result ParametersSpec Question)
   pub fine : (l : ParametersSpec) → r ≡ Ok l → IsList area l (list_of cells area)
   -- what the Rust asserts of a list that it finishes; it holds of every list of steps, so nothing asks for it (02, §8)
   pub within : (l : ParametersSpec) → r ≡ Ok l → l.indices.num_positional_only ≤ l.indices.num_positional
+  -- its texts lie in the record's area
+  pub in_area : (l : ParametersSpec) → r ≡ Ok l → l.area.now ≡ area

@@ -1,5 +1,6 @@
 -- What a step of the builder and its end promise (01, on the parameter list, and questions 5 to 7), for every state of the builder.
 use Rattle.std.specs.Prelude.{Option, Some, None, Ok, Err, List, [], ◌++◌, ◌≡◌, ℕ, ◌≤◌}
+use Rattle.std.specs.Borrow.{Bor}
 use Rattle.std.proofs.Math.Option as math
 use Rattle.rules.specs.ParameterRecord.{Step as RecordStep}
 use Rattle.rules.specs.Parameters.{Style, pos_only, pos_or_named, named_only, no_more, Parameter, act, next_style, added, positional_only_count, positional_count, args_index, kwargs_index}
@@ -95,9 +96,9 @@ pub record Stepping (area : List ℕ) (b : ParametersSpecBuilder) (t : RecordSte
       ≡ list_in area b ++ added area (style_in b) (act t) t.name
   pub built : Built area b → Built area r.builder
 
--- the list of a state, with its counts and indices
-abbrev pub finished : ParametersSpecBuilder → ParametersSpec
-finished b =
+-- the list of a state, with its counts and indices, and the area lent with it
+abbrev pub finished : Bor (List ℕ) → ParametersSpecBuilder → ParametersSpec
+finished area b =
     record {
       params = b.params;
       indices =
@@ -107,4 +108,5 @@ finished b =
             args = b.args;
             kwargs = b.kwargs;
           };
+      area = area;
     }

@@ -5,6 +5,7 @@
 ghost use Rattle.builder.specs.Build.{Building, Taking};
 
 use cells::question::Question;
+use cells::record::Record;
 use record::{codes_known, defaults_right, names_inside, step_at, step_count, whole_steps};
 use spec::{ParametersSpec, ParametersSpecBuilder, Stepped};
 
@@ -13,37 +14,37 @@ pub mod record;
 pub mod spec;
 
 // The list that a parameter record describes: 1 to 4 are each put to the whole record, 5 to 7 step by step.
-pub fn build(cells: &[u64], area: &[u8]) -> Result<ParametersSpec, Question>
-    ensures { Building cells.now area.now result }
+pub fn build<'a>(record: &Record<'a>) -> Result<ParametersSpec<'a>, Question>
+    ensures { Building record.now.cells.now record.now.area.now result }
 {
-    if !whole_steps(cells) {
+    if !whole_steps(record.cells) {
         return Err(Question::PartialStep);
     }
-    if !codes_known(cells) {
+    if !codes_known(record.cells) {
         return Err(Question::UnknownCode);
     }
-    if !names_inside(cells, area) {
+    if !names_inside(record) {
         return Err(Question::NameOutside);
     }
-    if !defaults_right(cells, area) {
+    if !defaults_right(record) {
         return Err(Question::WrongDefault);
     }
-    let taken = take_steps(cells, area);
+    let taken = take_steps(record);
     taken.answer?;
-    Ok(taken.builder.finish())
+    Ok(taken.builder.finish(record.area))
 }
 
 // All the steps of a record, from the builder without a parameter, up to the first that is refused.
-fn take_steps(cells: &[u64], area: &[u8]) -> Stepped
-    ensures { Taking cells.now area.now result }
+fn take_steps(record: &Record) -> Stepped
+    ensures { Taking record.now.cells.now record.now.area.now result }
 {
-    let m = step_count(cells);
+    let m = step_count(record.cells);
     let mut stepped = Stepped {
         builder: ParametersSpecBuilder::new(),
         answer: Ok(()),
     };
     for i in 0..m {
-        stepped = stepped.builder.step(area, step_at(cells, i));
+        stepped = stepped.builder.step(record.area, step_at(record.cells, i));
         if stepped.answer.is_err() {
             return stepped;
         }

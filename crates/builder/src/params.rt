@@ -94,13 +94,6 @@ impl CurrentParameterStyle {
 }
 
 // Can a parameter with this code and this number of a style be named in a call?
-pub fn nameable(code: u8, style: u8) -> bool
-    ensures { result ≡ may_be_named code style }
-{
-    may_be_named(code as u64, style as u64)
-}
-
-// The same of numbers as cells hold them.
 pub fn may_be_named(code: u64, style: u64) -> bool
     ensures { result ≡ may_be_named code style }
 {
@@ -164,6 +157,7 @@ fn known(area: &[u8], params: &Parameters, bytes: &[u8]) -> bool
     ensures { result ≡ known_in area.now params.now bytes.now }
 {
     (0..params.len).any(|i| {
-        same(bytes, bytes_at(area, params.names[i])) && nameable(params.codes[i], params.styles[i])
+        same(bytes, bytes_at(area, params.names[i]))
+            && may_be_named(u64::from(params.codes[i]), u64::from(params.styles[i]))
     })
 }

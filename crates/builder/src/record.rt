@@ -9,7 +9,7 @@ ghost use Rattle.builder.specs.Params.{step_of};
 ghost use Rattle.builder.specs.Record.{step_at, value_of};
 
 use crate::params::{CAPACITY, Step};
-use cells::record::cell;
+use cells::record::{Record, cell};
 use cells::text::read_text;
 use cells::value::read_default;
 
@@ -32,18 +32,20 @@ pub fn codes_known(cells: &[u64]) -> bool
 }
 
 // Question 3: the function has a name, and so has each step whose code calls for one.
-pub fn names_inside(cells: &[u64], area: &[u8]) -> bool
-    ensures { result ≡ names_inside area.now (read_parameters cells.now) }
+pub fn names_inside(record: &Record) -> bool
+    ensures { result ≡ names_inside record.now.area.now (read_parameters record.now.cells.now) }
 {
-    is_name(area, cell(cells, 0))
-        && (0..step_count(cells)).all(|i| step_at(cells, i).name_inside(area))
+    is_name(record.area, cell(record.cells, 0))
+        && (0..step_count(record.cells)).all(|i| {
+            step_at(record.cells, i).name_inside(record.area)
+        })
 }
 
 // Question 4: a default where the code calls for one, and nothing in cells that it leaves alone.
-pub fn defaults_right(cells: &[u64], area: &[u8]) -> bool
-    ensures { result ≡ defaults_right area.now (read_parameters cells.now).steps }
+pub fn defaults_right(record: &Record) -> bool
+    ensures { result ≡ defaults_right record.now.area.now (read_parameters record.now.cells.now).steps }
 {
-    (0..step_count(cells)).all(|i| step_at(cells, i).uses_right(area))
+    (0..step_count(record.cells)).all(|i| step_at(record.cells, i).uses_right(record.area))
 }
 
 // How many whole steps some cells hold.
@@ -69,7 +71,7 @@ pub(crate) fn step_at(cells: &[u64], i: usize) -> Step
 }
 
 // Is this a name, of a function or of a parameter?
-fn is_name(area: &[u8], payload: u64) -> bool
+pub fn is_name(area: &[u8], payload: u64) -> bool
     ensures { result ≡ is_text 1 area.now payload }
 {
     read_text(area, 1, payload).is_some()

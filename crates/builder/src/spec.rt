@@ -40,11 +40,12 @@ pub struct DefParamIndices {
     pub kwargs: Option<usize>,
 }
 
-// A finished list.
+// A finished list, and the area that its names and its defaults' texts lie in.
 #[derive(Clone, Copy)]
-pub struct ParametersSpec {
+pub struct ParametersSpec<'a> {
     pub params: Parameters,
     pub indices: DefParamIndices,
+    pub area: &'a [u8],
 }
 
 impl ParametersSpecBuilder {
@@ -209,10 +210,10 @@ impl ParametersSpecBuilder {
         }
     }
 
-    // The finished list. The Rust asserts here that `positional_only` is at most `positional`: that holds after every step (`Built`) and of each
+    // The finished list, with the area of its record. The Rust asserts here that `positional_only` is at most `positional`: that holds after every step (`Built`) and of each
     // list that `build` hands out (`Building`), so nothing is asked (02, §8).
-    pub fn finish(self) -> ParametersSpec
-        ensures { result ≡ finished self }
+    pub fn finish<'a>(self, area: &'a [u8]) -> ParametersSpec<'a>
+        ensures { result ≡ finished area.entry self }
     {
         ParametersSpec {
             params: self.params,
@@ -222,6 +223,7 @@ impl ParametersSpecBuilder {
                 args: self.args,
                 kwargs: self.kwargs,
             },
+            area,
         }
     }
 }

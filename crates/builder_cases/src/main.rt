@@ -5,6 +5,7 @@
 use builder::build;
 use builder::spec::ParametersSpec;
 use cells::question::Question;
+use cells::record::Record;
 use lookup::get_str;
 
 // Names in the area of main: a payload is start × 256 + length.
@@ -43,17 +44,17 @@ const KWARGS: u64 = 7;
 
 // A parameter record: its first `len` cells.
 #[derive(Clone, Copy)]
-struct Record {
+struct ParameterRecord {
     cells: [u64; 272],
     len: usize,
 }
 
-impl Record {
+impl ParameterRecord {
     // A function's name, and no step.
     fn new(name: u64) -> Self {
         let mut cells = [0; 272];
         cells[0] = name;
-        Record { cells, len: 1 }
+        ParameterRecord { cells, len: 1 }
     }
 
     fn step(mut self, code: u64, name: u64, kind: u64, payload: u64) -> Self {
@@ -102,7 +103,7 @@ fn main() {
 
 // 1 and 6, and the lengths of 3.
 fn limits(area: &[u8]) {
-    let f = Record::new(START);
+    let f = ParameterRecord::new(START);
     case(area, b"no step", f);
     case(area, b"64 parameters", f.required(A, 64));
     case(area, b"65 parameters", f.required(A, 65));
@@ -127,18 +128,18 @@ fn limits(area: &[u8]) {
     case(
         area,
         b"a function's name of 64 bytes",
-        Record::new(BYTES_64),
+        ParameterRecord::new(BYTES_64),
     );
     case(
         area,
         b"a function's name of 65 bytes",
-        Record::new(BYTES_65),
+        ParameterRecord::new(BYTES_65),
     );
 }
 
 // 2, 3 and 4.
 fn contents(area: &[u8]) {
-    let f = Record::new(START);
+    let f = ParameterRecord::new(START);
     case(area, b"code 0", f.add(0, A));
     case(area, b"code 8", f.add(8, A));
     case(
@@ -165,7 +166,7 @@ fn contents(area: &[u8]) {
 
 // 5.
 fn places(area: &[u8]) {
-    let f = Record::new(START);
+    let f = ParameterRecord::new(START);
     case(area, b"/ after *", f.add(BARE_STAR, 0).add(SLASH, 0));
     case(area, b"/ after /", f.add(SLASH, 0).add(SLASH, 0));
     case(area, b"* after *args", f.add(ARGS, 0).add(BARE_STAR, 0));
@@ -189,7 +190,7 @@ fn places(area: &[u8]) {
 
 // 7.
 fn names(area: &[u8]) {
-    let f = Record::new(START);
+    let f = ParameterRecord::new(START);
     case(area, b"a, a", f.add(REQUIRED, A).add(REQUIRED, A));
     case(
         area,
@@ -217,8 +218,8 @@ fn names(area: &[u8]) {
 }
 
 // One line: what is asked, and the number of the refusal.
-fn case(area: &[u8], label: &[u8], record: Record) {
-    let number = match built(area, record) {
+fn case(area: &[u8], label: &[u8], record: ParameterRecord) {
+    let number = match built(area, &record) {
         Ok(_) => 0,
         Err(question) => question.number(),
     };
@@ -229,14 +230,15 @@ fn case(area: &[u8], label: &[u8], record: Record) {
 }
 
 // The list of a record's first cells; of all where it has fewer.
-fn built(area: &[u8], record: Record) -> Result<ParametersSpec, Question> {
-    let cells = &record.cells;
-    build(cells.get(..record.len).unwrap_or(cells), area)
+fn built<'a>(area: &'a [u8], written: &'a ParameterRecord) -> Result<ParametersSpec<'a>, Question> {
+    let all = &written.cells;
+    let cells = all.get(..written.len).unwrap_or(all);
+    build(&Record { cells, area })
 }
 
 // A lookup of each kind in the list a, /, b, start, *args, c, **kwargs.
 fn lookups(area: &[u8]) {
-    let record = Record::new(A)
+    let record = ParameterRecord::new(A)
         .add(REQUIRED, A)
         .add(SLASH, 0)
         .add(OPTIONAL, B)
@@ -244,24 +246,24 @@ fn lookups(area: &[u8]) {
         .add(ARGS, 0)
         .add(REQUIRED, C)
         .add(KWARGS, 0);
-    if let Ok(list) = built(area, record) {
-        finding(area, &list, b"a");
-        finding(area, &list, b"b");
-        finding(area, &list, b"start");
-        finding(area, &list, b"star");
-        finding(area, &list, b"starts");
-        finding(area, &list, b"c");
-        finding(area, &list, b"*args");
-        finding(area, &list, b"");
+    if let Ok(list) = built(area, &record) {
+        finding(&list, b"a");
+        finding(&list, b"b");
+        finding(&list, b"start");
+        finding(&list, b"star");
+        finding(&list, b"starts");
+        finding(&list, b"c");
+        finding(&list, b"*args");
+        finding(&list, b"");
     }
 }
 
 // One line: the name, and the index found.
-fn finding(area: &[u8], list: &ParametersSpec, name: &[u8]) {
+fn finding(list: &ParametersSpec, name: &[u8]) {
     io::write_all(1, b"find ");
     io::write_all(1, name);
     io::write_all(1, b": ");
-    match get_str(list, area, name) {
+    match get_str(list, name) {
         Some(i) => {
             io::print_decimal(1, i as u64);
         }

@@ -13,7 +13,7 @@ use lib.Seq.{drop-drop}
 use borrow.Author.Tests.{leb-true, eqb-true}
 use Rattle.rules.specs.Listing.{all}
 use Rattle.rules.specs.Text.{differ}
-use Rattle.rules.specs.Value.{value_width, well_formed_argument}
+use Rattle.rules.specs.Value.{value_width, well_formed_argument, well_formed_name, well_formed_key}
 use Rattle.rules.specs.Answer.{Answer, fine, refuse, ◌then◌, ask}
 use Rattle.rules.specs.CallRecord.{Head, CallRecord, head_width, pair_width, read_head, call_length, read_call}
 use Rattle.rules.specs.CallQuestions.{lengths_right, kind_right, kinds_right, well_formed_pair, well_formed_entry, parts_well_formed, keys_differ, entries_differ, names_differ, ask_form, ask_call}
@@ -21,7 +21,6 @@ use Rattle.rules.proofs.LawsListing.{and_left, and_right}
 use Rattle.rules.proofs.LawsAnswer.{then_left, then_right, ask_true}
 use Rattle.calls.specs.Head.{at_most, Few, named_from, items_from, entries_from}
 use Rattle.calls.specs.Keys.{ask_keys}
-use Rattle.calls.specs.declared.form.Role.TheVariants as role
 use Rattle.calls.specs.Runs.{values_at, pairs_at, run_formed, pairs_formed, Formed, keys_at, names_at}
 use Rattle.calls.proofs.LawsEach.{each_length}
 use Rattle.calls.proofs.LawsKeys.{written_formed, written_keys}
@@ -96,10 +95,10 @@ module _ (cells : List ℕ) (h : Head) (read : h ≡ read_head cells) where
   kinds_by = simp (read, each_length)
 
   pub parts_by : (area : List ℕ) → parts_well_formed area (read_call cells)
-      ≡ (run_formed role.Argument area cells head_width value_width h.p
-      && pairs_formed role.Name area cells (named_from h) h.n
-      && run_formed role.Argument area cells (items_from h) value_width h.s
-      && pairs_formed role.Key area cells (entries_from h) h.d)
+      ≡ (run_formed (well_formed_argument area) cells head_width value_width h.p
+      && pairs_formed (well_formed_name area) area cells (named_from h) h.n
+      && run_formed (well_formed_argument area) cells (items_from h) value_width h.s
+      && pairs_formed (well_formed_key area) area cells (entries_from h) h.d)
   unfolding parts_well_formed well_formed_pair well_formed_entry
   parts_by area = rw (call_positionals, call_named, call_items, call_entries)
 

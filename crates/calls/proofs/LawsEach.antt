@@ -32,10 +32,6 @@ module _ {X : Type 0} (width : ℕ) (read : List ℕ → X) where
       let e : suc left - 1 ≡ left = omega arith in
       rw (e, drop-drop width at cells)
 
-  -- nothing is left
-  pub each_none : (cells : List ℕ) (left : ℕ) → left ≤ 0 → read_each width read left cells ≡ []
-  each_none cells left h = let e : left ≡ 0 = omega arith in rw e
-
   -- the one at index k
   pub each_at : (cells : List ℕ) (at count k : ℕ) (x : X) → k < count → get_or (read_each width read count (drop at cells)) k x ≡ read (drop (at + width * k) cells)
   each_at cells at zero k x h = absurd (omega arith)

@@ -7,7 +7,6 @@ use mathlib.Core.Bool.{Bool, true, false, not, ◌&&◌, ◌||◌}
 use mathlib.Core.List.{List, [], ◌∷◌, map}
 use Prim.Native.Nat.{ℕ, ◌+◌, ◌-◌, ◌<◌}
 use lib.Dec.{eqb, leb}
-use lib.ListN.{get_or}
 use mir.Syntax.{w64}
 use mir.Val.{Fits, to_z}
 use mir.ValLaws.{of_z-to_z}
@@ -20,8 +19,6 @@ use Rattle.rules.proofs.LawsListing.{and_left, and_right, and_both, all_imp, map
 use Rattle.rules.proofs.LawsText.{payload_of_halves, is_text_weaker}
 use Rattle.cells.specs.Text.{text_of, part_at}
 use Rattle.cells.specs.Value.{read_key}
-use Rattle.cells.specs.Record.{pair_at, key_at}
-use Rattle.cells.proofs.LawsRecord.{pair_at_is}
 use Rattle.cells.specs.declared.value.Key.TheVariants.{Word, Number}
 use Rattle.calls.specs.Runs.{pairs_at, Formed, key_there, keys_at, new_key, names_at}
 use Rattle.calls.specs.Keys.{same_read}
@@ -33,10 +30,6 @@ pub text_part : (least : ℕ) (area : List ℕ) (payload : ℕ) → is_text leas
 unfolding is_text part_at
 text_part least area payload e =
     rw (and_left (inside area payload) (leb least (size_of payload)) (and_left (inside area payload && leb least (size_of payload)) (leb (size_of payload) 64) e))
-
--- a payload of 64-bit cells has 64 bits
-payload_fits : (cells : List ℕ) (at : ℕ) → Fits w64 (get_or cells (at + 1) 0) → Fits w64 (pair_at cells at).payload
-payload_fits cells at f = rw (pair_at_is cells at) f
 
 -- ---- a key that was read
 
@@ -73,12 +66,10 @@ seen_same area v w f g (as_number r k) (as_word s l d) = rw (r, s, k, l)
 seen_same area v w f g (as_number r k) (as_number s l) =
     rw (r, s, k, l, of_z-to_z w64 v.payload f, of_z-to_z w64 w.payload g)
 
--- the keys that stand at two indices, as they were read
-pub same_keys : (area cells : List ℕ) → ((i : ℕ) → Fits w64 (get_or cells i 0)) → (a b : ℕ) → well_formed_key area (pair_at cells a) ≡ true → well_formed_key area (pair_at cells b) ≡ true
-    → same_read area (key_at area cells a) (key_at area cells b) ≡ same_key (key_there area cells a) (key_there area cells b)
-unfolding key_at
-same_keys area cells fits a b d e =
-    seen_same area (pair_at cells a) (pair_at cells b) (payload_fits cells a (fits (a + 1))) (payload_fits cells b (fits (b + 1))) (seen area (pair_at cells a) d) (seen area (pair_at cells b) e)
+-- two keys as they were read are equal when `rules` says so
+pub same_keys : (area : List ℕ) (v w : Value) → Fits w64 v.payload → Fits w64 w.payload → well_formed_key area v ≡ true → well_formed_key area w ≡ true
+    → same_read area (read_key area v.kind v.payload) (read_key area w.kind w.payload) ≡ same_key (key_in area v) (key_in area w)
+same_keys area v w f g d e = seen_same area v w f g (seen area v d) (seen area w e)
 
 -- is the key at an index none of those of a run?
 abbrev pub new_at : List ℕ → List ℕ → ℕ → ℕ → ℕ → Bool

@@ -58,24 +58,24 @@ same_key_slot (number m) (number n) e = ap (λ (j : ℕ). j % slots) (eqb-true m
 -- ---- marks
 
 -- is a slot marked, and that of a key?
-abbrev pub mark : List ℕ → ℕ → Bool
-mark marks s = eqb (get_or marks s 0) 1
+abbrev pub mark : List Bool → ℕ → Bool
+mark marks s = get_or marks s false
 
-abbrev pub marked : List ℕ → Key → Bool
+abbrev pub marked : List Bool → Key → Bool
 marked marks k = mark marks (key_slot k)
 
-mark_stays : (marks : List ℕ) (s k : ℕ) → s < length marks → mark marks k ≡ true → mark (set marks s 1) k ≡ true
+mark_stays : (marks : List Bool) (s k : ℕ) → s < length marks → mark marks k ≡ true → mark (set marks s true) k ≡ true
 mark_stays marks s k h e = go (eqb k s) refl
   where
-    go : (b : Bool) → eqb k s ≡ b → mark (set marks s 1) k ≡ true
-    go true q = rw (eqb-true k s q, get_or-set_same marks s 1 0 h)
-    go false q = rw (get_or-set_other marks s k 1 0 (eqb-false k s q)) e
+    go : (b : Bool) → eqb k s ≡ b → mark (set marks s true) k ≡ true
+    go true q = rw (eqb-true k s q, get_or-set_same marks s true false h)
+    go false q = rw (get_or-set_other marks s k true false (eqb-false k s q)) e
 
-mark_new : (marks : List ℕ) (s : ℕ) → s < length marks → mark (set marks s 1) s ≡ true
-mark_new marks s h = rw (get_or-set_same marks s 1 0 h)
+mark_new : (marks : List Bool) (s : ℕ) → s < length marks → mark (set marks s true) s ≡ true
+mark_new marks s h = rw (get_or-set_same marks s true false h)
 
 -- a key that has no mark at its slot is none of some keys whose slots are marked
-pub unmarked_new : (marks : List ℕ) (k : Key) (ls : List Key) → marked marks k ≡ false → all (marked marks) ls ≡ true → new_key k ls ≡ true
+pub unmarked_new : (marks : List Bool) (k : Key) (ls : List Key) → marked marks k ≡ false → all (marked marks) ls ≡ true → new_key k ls ≡ true
 unmarked_new marks k ls free e = all_imp (marked marks) (λ l. not (same_key k l)) (λ l m. not_of (same_key k l) (apart l m (same_key k l) refl)) ls e
   where
     apart : (l : Key) → marked marks l ≡ true → (b : Bool) → same_key k l ≡ b → same_key k l ≡ false
@@ -85,7 +85,7 @@ unmarked_new marks k ls free e = all_imp (marked marks) (λ l. not (same_key k l
 -- ---- a run that is walked from its end
 
 -- what is left is `left` entries of `count`; the keys of those behind them differ, and their slots are marked
-pub record Walked (area cells marks : List ℕ) (from count left : ℕ) : Type 0 where
+pub record Walked (area cells : List ℕ) (marks : List Bool) (from count left : ℕ) : Type 0 where
   pub few : left ≤ count
   pub wide : length marks ≡ slots
   pub apart : keys_differ (keys_at area cells (from + pair_width * left) (count - left)) ≡ true
@@ -121,12 +121,12 @@ differ_back [] ls e = e
 differ_back (k ∷ ks) ls e = and_no_right (new_key k (ks ++ ls)) (keys_differ (ks ++ ls)) (differ_back ks ls e)
 
 module _ (area cells : List ℕ) (from count : ℕ) where
-  pub walked_start : (marks : List ℕ) → length marks ≡ slots → Walked area cells marks from count count
+  pub walked_start : (marks : List Bool) → length marks ≡ slots → Walked area cells marks from count count
   walked_start marks w =
       let n : count - count ≡ 0 = omega arith in
       record { few = omega arith; wide = w; apart = rw n; seen = rw n }
 
-  module _ (marks : List ℕ) (left : ℕ) (some : 0 < left) (w : Walked area cells marks from count left) where
+  module _ (marks : List Bool) (left : ℕ) (some : 0 < left) (w : Walked area cells marks from count left) where
     abbrev last : Key
     last = key_there area cells (from + pair_width * (left - 1))
 
@@ -150,17 +150,17 @@ module _ (area cells : List ℕ) (from count : ℕ) where
     pub walked_new : marked marks last ≡ false → new_key last behind ≡ true
     walked_new free = unmarked_new marks last behind free behind_seen
 
-    pub walked_next : new_key last behind ≡ true → Walked area cells (set marks (key_slot last) 1) from count (left - 1)
+    pub walked_next : new_key last behind ≡ true → Walked area cells (set marks (key_slot last) true) from count (left - 1)
     walked_next new =
         record {
           few = omega (arith, w.few);
-          wide = length-set marks (key_slot last) 1 ∙ w.wide;
+          wide = length-set marks (key_slot last) true ∙ w.wide;
           apart = ap keys_differ here ∙ and_both (new_key last behind) (keys_differ behind) new (rw same_place w.apart);
           seen =
-              ap (all (marked (set marks (key_slot last) 1))) here
-              ∙ and_both (marked (set marks (key_slot last) 1) last) (all (marked (set marks (key_slot last) 1)) behind)
+              ap (all (marked (set marks (key_slot last) true))) here
+              ∙ and_both (marked (set marks (key_slot last) true) last) (all (marked (set marks (key_slot last) true)) behind)
               (mark_new marks (key_slot last) room)
-              (all_imp (marked marks) (marked (set marks (key_slot last) 1)) (λ k e. mark_stays marks (key_slot last) (key_slot k) room e) behind behind_seen);
+              (all_imp (marked marks) (marked (set marks (key_slot last) true)) (λ k e. mark_stays marks (key_slot last) (key_slot k) room e) behind behind_seen);
         }
       where
         room : key_slot last < length marks

@@ -1,14 +1,13 @@
 -- Runs of values and of pairs in a call record's cells (01, cells, texts and records), at an index, as `rules` reads them.
-use Rattle.std.specs.Prelude.{◌≡◌, Bool, true, not, ◌&&◌, List, map, ℕ, ◌+◌, ◌*◌, ◌≤◌, length, drop}
+use Rattle.std.specs.Prelude.{◌≡◌, Bool, true, not, ◌&&◌, List, map, ℕ, ◌+◌, ◌*◌, ◌^◌, ◌<◌, ◌≤◌, length, drop}
 use Rattle.rules.specs.Listing.{all}
 use Rattle.rules.specs.Cells.{read_each}
 use Rattle.rules.specs.Text.{Text}
-use Rattle.rules.specs.Value.{Value, value_width, read_value, well_formed_argument, well_formed_name, well_formed_key}
+use Rattle.rules.specs.Value.{Value, value_width, read_value, well_formed_argument}
 use Rattle.rules.specs.CallRecord.{Pair, pair_width, read_pair, Key, key_in, named_in}
 use Rattle.rules.specs.CallQuestions.{same_key}
+use Rattle.cells.specs.Value.{value}
 use Rattle.cells.specs.Record.{pair_at}
-use Rattle.calls.specs.declared.form.Role.{Role}
-use Rattle.calls.specs.declared.form.Role.TheVariants as role
 
 abbrev pub values_at : List ℕ → ℕ → ℕ → List Value
 values_at cells from count = read_each value_width read_value count (drop from cells)
@@ -16,18 +15,17 @@ values_at cells from count = read_each value_width read_value count (drop from c
 abbrev pub pairs_at : List ℕ → ℕ → ℕ → List Pair
 pairs_at cells from count = read_each pair_width read_pair count (drop from cells)
 
--- what 11 asks (01, the questions, call record): of a value by its role, of a run of such values that begin `width` cells apart, and of a run of
+-- what 11 asks (01, the questions, call record) of a run of values that begin `width` cells apart, each by the same test, and of a run of
 -- pairs, where a name or a key has a value behind it
-abbrev pub formed_as : Role → List ℕ → Value → Bool
-formed_as role.Argument area v = well_formed_argument area v
-formed_as role.Name area v = well_formed_name area v
-formed_as role.Key area v = well_formed_key area v
+abbrev pub run_formed : (Value → Bool) → List ℕ → ℕ → ℕ → ℕ → Bool
+run_formed test cells from width count = all test (read_each width read_value count (drop from cells))
 
-abbrev pub run_formed : Role → List ℕ → List ℕ → ℕ → ℕ → ℕ → Bool
-run_formed role area cells from width count = all (formed_as role area) (read_each width read_value count (drop from cells))
+abbrev pub pairs_formed : (Value → Bool) → List ℕ → List ℕ → ℕ → ℕ → Bool
+pairs_formed test area cells from count = all (λ p. test p.key && well_formed_argument area p.value) (pairs_at cells from count)
 
-abbrev pub pairs_formed : Role → List ℕ → List ℕ → ℕ → ℕ → Bool
-pairs_formed role area cells from count = all (λ p. formed_as role area p.key && well_formed_argument area p.value) (pairs_at cells from count)
+-- what is answered of two cells is what a test says of the value that they are
+pub record Tells (answers : ℕ → ℕ → Bool → Type 0) (test : Value → Bool) : Type 0 where
+  pub told : (kind payload : ℕ) (b : Bool) → kind < 2 ^ 64 → payload < 2 ^ 64 → answers kind payload b → test (value kind payload) ≡ b
 
 -- the run lies inside the cells and all of it passes the test: what question 11 leaves to 12 and 13
 pub record Formed (test : Pair → Bool) (cells : List ℕ) (from count : ℕ) : Type 0 where

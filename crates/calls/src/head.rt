@@ -1,10 +1,11 @@
 // The head of a call record (01, cells, texts and records): six cells of counts and kinds, and where each part behind them
 // begins. How many cells a value and a pair take is known here alone.
-ghost use Rattle.std.specs.Prelude.{◌≡◌};
+ghost use Rattle.std.specs.Prelude.{◌≡◌, ◌≤◌, length};
 ghost use Rattle.rules.specs.CallRecord.{read_head};
-ghost use Rattle.calls.specs.Head.{head_of, at_most, Few, named_from, items_from, entries_from};
+ghost use Rattle.cells.specs.Out.{stored};
+ghost use Rattle.calls.specs.Head.{head_of, no_head, head_cells, at_most, Few, named_from, items_from, entries_from};
 
-use cells::record::cell;
+use cells::record::{Record, cell};
 
 pub const HEAD: usize = 6;
 
@@ -20,6 +21,60 @@ pub struct Head {
     pub s: usize,
     pub double_kind: u64,
     pub d: usize,
+}
+
+// A call record with the area that its texts lie in, and its head.
+#[derive(Clone, Copy, Debug)]
+pub struct Call<'a> {
+    pub cells: &'a [u64],
+    pub area: &'a [u8],
+    pub head: Head,
+}
+
+impl<'a> Call<'a> {
+    pub fn new(record: &Record<'a>) -> Call<'a>
+        ensures cells { result.cells ≡ record.now.cells }
+        ensures area { result.area ≡ record.now.area }
+        ensures head { head_of result.head ≡ read_head record.now.cells.now }
+    {
+        Call {
+            cells: record.cells,
+            area: record.area,
+            head: read_head(record.cells),
+        }
+    }
+}
+
+impl Head {
+    // The head of a call that is given nothing.
+    pub fn none() -> Head
+        ensures { head_of result ≡ no_head }
+    {
+        Head {
+            p: 0,
+            n: 0,
+            star_kind: 0,
+            s: 0,
+            double_kind: 0,
+            d: 0,
+        }
+    }
+
+    // The six cells that `read_head` reads.
+    #[tactic(auto, unfolding(cells::specs::Out::stored))]
+    pub fn write(self, cells: &mut [u64])
+        requires { 6 ≤ length cells.old }
+        ensures { cells.new ≡ stored cells.old 0 (head_cells (head_of self)) }
+    {
+        cells[..HEAD].copy_from_slice(&[
+            self.p as u64,
+            self.n as u64,
+            self.star_kind,
+            self.s as u64,
+            self.double_kind,
+            self.d as u64,
+        ]);
+    }
 }
 
 pub fn read_head(cells: &[u64]) -> Head

@@ -7,21 +7,21 @@ ghost use Rattle.calls.specs.Runs.{key_there};
 ghost use Rattle.calls.specs.Slots.{key_slot};
 
 use cells::key::last_key;
-use cells::record::pair_at;
+use cells::record::{Record, pair_at};
 
 // Enough that few of 64 names share a slot. A prime, so that each byte of a number counts in its remainder; and one for which two bytes side by
 // side do not make up for each other unless one of them is off by 29 or more: names that differ in two digits have slots of their own.
-pub(crate) const SLOTS: usize = 929;
+pub const SLOTS: usize = 929;
 
 // The slot of the key at an index: of a text by its last bytes, since names that begin alike mostly end differently, and of a whole number
 // by its remainder.
-pub(crate) fn key_slot(cells: &[u64], area: &[u8], at: usize) -> usize
-    requires { well_formed_key area.now (pair_at cells.now at) ≡ true }
-    ensures { result ≡ key_slot (key_there area.now cells.now at) }
+pub(crate) fn key_slot(record: &Record, at: usize) -> usize
+    requires { well_formed_key record.now.area.now (pair_at record.now.cells.now at) ≡ true }
+    ensures { result ≡ key_slot (key_there record.now.area.now record.now.cells.now at) }
 {
-    let key = pair_at(cells, at);
+    let key = pair_at(record.cells, at);
     if key.kind == 6 {
-        return (last_key(area, key.payload) as usize) % SLOTS;
+        return (last_key(record.area, key.payload) as usize) % SLOTS;
     }
     (key.payload as usize) % SLOTS
 }

@@ -8,34 +8,34 @@ ghost use Rattle.cells.specs.Out.{stored};
 ghost use Rattle.calls.specs.Head.{head_of, Few};
 ghost use Rattle.calls.specs.Values.{values_in};
 
-use crate::head::{HEAD, Head, PAIR, VALUE};
+use crate::head::{Call, HEAD, PAIR, VALUE};
 use crate::place::position_at;
 use cells::out::put_inside;
 use cells::record::pair_at;
 use cells::value::Pair;
 
 // `count` values of P from number `from` on, stored from cell `at` on.
-pub fn write_values(cells: &[u64], h: Head, from: usize, count: usize, at: usize, board: &mut [u64])
+pub fn write_values(call: &Call, from: usize, count: usize, at: usize, board: &mut [u64])
     requires { (from ≤ 128) × (at + 2 * count ≤ length board.old) }
-    ensures { board.new ≡ stored board.old at (write_each value_cells (values_in cells.now (head_of h) from count)) }
+    ensures { board.new ≡ stored board.old at (write_each value_cells (values_in call.now.cells.now (head_of call.now.head) from count)) }
 {
     for k in 0..count {
-        let position = position_at(h, from + k);
-        put_inside(board, at + VALUE * k, pair_at(cells, position));
+        let position = position_at(call.head, from + k);
+        put_inside(board, at + VALUE * k, pair_at(call.cells, position));
     }
 }
 
 // The written values of a record, which stand side by side, stored from cell 0 on.
-pub fn copy_written(cells: &[u64], h: Head, board: &mut [u64])
-    requires { Few 64 (head_of h) × (6 + 2 * h.p ≤ length cells.now) × (2 * h.p ≤ length board.old) }
-    ensures { board.new ≡ stored board.old 0 (write_each value_cells (values_in cells.now (head_of h) 0 h.p)) }
+pub fn copy_written(call: &Call, board: &mut [u64])
+    requires { Few 64 (head_of call.now.head) × (6 + 2 * call.now.head.p ≤ length call.now.cells.now) × (2 * call.now.head.p ≤ length board.old) }
+    ensures { board.new ≡ stored board.old 0 (write_each value_cells (values_in call.now.cells.now (head_of call.now.head) 0 call.now.head.p)) }
 {
-    copy_values(cells, HEAD, h.p, 0, board);
+    copy_values(call.cells, HEAD, call.head.p, 0, board);
 }
 
 // The cells of `count` values that stand side by side from a cell on, stored from cell `at` on.
 pub fn copy_values(cells: &[u64], from: usize, count: usize, at: usize, board: &mut [u64])
-    requires { (count ≤ 64) × (from + 2 * count ≤ length cells.now) × (at + 2 * count ≤ length board.old) }
+    requires { (count ≤ 128) × (from + 2 * count ≤ length cells.now) × (at + 2 * count ≤ length board.old) }
     ensures { board.new ≡ stored board.old at (take (2 * count) (drop from cells.now)) }
 {
     let size = VALUE * count;

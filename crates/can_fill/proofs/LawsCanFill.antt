@@ -23,22 +23,15 @@ use Rattle.builder.specs.declared.spec.ParametersSpec.{ParametersSpec}
 use Rattle.cells.proofs.LawsListed.{listed_next, listed_more}
 use Rattle.calls.specs.Head.{named_from}
 use Rattle.lookup.specs.Lookup.{finding_of}
-use Rattle.cells.specs.Text.{part_at}
-use Rattle.cells.specs.Record.{pair_at}
 use Rattle.findings.specs.Resolved.{named_at}
-use Rattle.findings.specs.Resolve.{found_in, found_at, Below}
+use Rattle.findings.specs.Resolve.{found_at}
 use Rattle.can_fill.specs.CanFill.{bytes_from, written_in, free_for, named_after, FillReady, NamesReady, NamesFilled}
 use Rattle.findings.specs.Found.{first_missing}
-use Rattle.findings.proofs.LawsEntries.{find_in_below}
 use Rattle.findings.proofs.LawsAsked.{is_some}
 use Rattle.findings.proofs.LawsNames.{any_parameter, listed_split, length_list, few_list, found_is}
 use Rattle.can_fill.proofs.LawsFilling.{or-true, Counted, counted_none, counted_more, counted_stop, counted_end, left_first, required_at, there_is, args_there, kwargs_there}
 
 -- ---- the written names, one by one
-
-pub found_below : (spec : List ℕ) (l : ParametersSpec) (area cells : List ℕ) (pair : ℕ) → Below 64 (found_at spec l area cells pair)
-unfolding found_in
-found_below spec l area cells pair = find_in_below spec l.params (part_at area (pair_at cells pair).payload)
 
 module _ (spec : List ℕ) (l : ParametersSpec) (cells area : List ℕ) (h : Head) (next : ℕ) (named₀ : List ℕ) (ready : NamesReady spec l cells area h next named₀) where
   abbrev qs : List Parameter

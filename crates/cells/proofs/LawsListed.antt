@@ -10,7 +10,7 @@ use native.Mathlib.Nat.{zero-add, add-zero, add-suc, suc-add}
 use native.Mathlib.Numerals.{add-one}
 use native.Mathlib.Omega.{arith}
 use lib.ListN.{length, get_or}
-use Rattle.rules.specs.Listing.{any, all, tally, first_from}
+use Rattle.rules.specs.Listing.{all, tally, first_from}
 use Rattle.rules.proofs.LawsListing.{and_left, and_right}
 use Rattle.cells.specs.Listed.{listed}
 
@@ -88,21 +88,6 @@ module _ {X : Type 0} where
           → cond a (some i) (first_from test (suc i) (ys ++ x ∷ [])) ≡ or_first (cond a (some i) (first_from test (suc i) ys)) (test x) (i + suc (length ys))
       go true e = refl
       go false e = e ∙ rw (suc-add, add-suc)
-
--- ---- a loop over the list: what is left from index i on
-
-module _ {X : Type 0} (test : X → Bool) (at : ℕ → X) (i n : ℕ) (h : i < n) where
-  pub any_hit : test (at i) ≡ true → any test (listed at i (n - i)) ≡ true
-  any_hit e = rw (listed_next at i n h, e)
-
-  pub any_miss : test (at i) ≡ false → any test (listed at i (n - i)) ≡ any test (listed at (i + 1) (n - (i + 1)))
-  any_miss e = rw (listed_next at i n h, e)
-
-  pub all_stop : test (at i) ≡ false → all test (listed at i (n - i)) ≡ false
-  all_stop e = rw (listed_next at i n h, e)
-
-  pub all_next : test (at i) ≡ true → all test (listed at i (n - i)) ≡ all test (listed at (i + 1) (n - (i + 1)))
-  all_next e = rw (listed_next at i n h, e)
 
 -- a test of all is a test of each
 pub all_at : {X : Type 0} (test : X → Bool) (xs : List X) (k : ℕ) (x : X) → k < length xs → all test xs ≡ true → test (get_or xs k x) ≡ true

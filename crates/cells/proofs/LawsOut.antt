@@ -1,17 +1,18 @@
 -- Cells stored one run after the other (01, board): lent cells that hold what was written
 -- so far, and after it what they held, hold one run more after a store at the end of what was written. That is what a loop that
--- writes asks for. Then what is stored at any index: nothing, a run behind a run, a run from cell 0 on,
--- one element more of a run; and bytes put behind bytes. Assumes nothing.
-use mathlib.Core.Path.{◌≡◌, sym, ap, subst, ◌∙◌}
-use mathlib.Core.List.{List, [], ◌∷◌, ◌++◌, append_assoc, append-nil}
-use Prim.Native.Nat.{ℕ, ◌+◌, ◌≤◌, ◌<◌}
-use native.Mathlib.Numerals.{add-one}
+-- writes asks for. Then what is stored at any index: nothing, a run behind a run, a run from cell 0 on; and bytes put behind bytes, by
+-- index and by cursor.
+-- Assumes nothing.
+use mathlib.Core.Path.{◌≡◌, refl, sym, ap, subst, ◌∙◌}
+use mathlib.Core.List.{List, [], ◌++◌, append_assoc, append-nil}
+use Prim.Native.Nat.{ℕ, ◌+◌, ◌≤◌}
 use native.Mathlib.Omega.{arith}
-use lib.ListN.{length, take, drop, get_or, set, length-append, length-drop, take-append-drop}
-use lib.Seq.{length-take-le, sets-eq, take-suc, take-append_seam, drop-append-add, drop-drop}
+use lib.ListN.{length, take, drop, length-append, length-drop, take-append-drop}
+use lib.Seq.{length-take-le, take-append_seam, drop-append-add, drop-drop}
 use borrow.Author.Tests.{le-leb}
 use Rattle.rules.specs.Cells.{over}
-use Rattle.cells.specs.Out.{stored, Put}
+use Rattle.cells.specs.Out.{stored, Put, Wrote}
+use Rattle.cells.specs.declared.out.Cursor.{Cursor}
 
 pub over_length : (done cells : List ℕ) → length done ≤ length cells → length (over done cells) ≡ length cells
 unfolding over
@@ -74,20 +75,6 @@ stored_length cells xs at h =
     fits : length (take at cells ++ xs) ≡ length (take at cells) + length xs → length (take at cells) ≡ at → length (take at cells ++ xs) ≤ length cells
     fits l t = omega arith
 
--- one byte more of a text
-pub stored_more : (cells text held : List ℕ) (at k : ℕ) → held ≡ stored cells at (take k text) → length held ≡ length cells → k < length text → at + length text ≤ length cells
-    → set held (at + k) (get_or text k 0) ≡ stored cells at (take (k + 1) text)
-unfolding stored
-stored_more cells text held at k e l h room =
-    let front : length (take k text) ≡ k = length-take-le k text (omega arith) in
-    set_stored
-    ∙ ap (λ z. stored z (at + k) (get_or text k 0 ∷ [])) e
-    ∙ stored_stored cells (take k text) (get_or text k 0 ∷ []) at (at + k) (ap (λ n. at + n) (sym front)) (omega arith)
-    ∙ ap (stored cells at) (sym (ap (λ n. take n text) (add-one k) ∙ take-suc text k 0 h))
-  where
-    set_stored : set held (at + k) (get_or text k 0) ≡ stored held (at + k) (get_or text k 0 ∷ [])
-    set_stored = rw (le-leb (at + k + 1) (length held) (omega arith)) (sets-eq (get_or text k 0 ∷ []) held (at + k) (omega arith))
-
 -- ---- bytes behind bytes
 
 pub put_none : (bytes out : List ℕ) (at : ℕ) → bytes ≡ [] → at + length bytes ≤ length out → Put bytes at out out at
@@ -123,3 +110,37 @@ module _ (xs ys : List ℕ) (at : ℕ) (out : List ℕ) (room : at + length (xs 
     where
       fits : next + length ys ≤ length out
       fits = let n : next ≡ at + length xs = p.ends in omega (arith, both)
+
+-- ---- the same of a cursor
+
+pub wrote_none : (text : List ℕ) (line : Cursor) → text ≡ [] → line.at + length text ≤ length line.out.now → Wrote text line line
+wrote_none text line e h = record { put = put_none text line.out.now line.at e h; same_reference = refl }
+
+pub wrote_same : {line next : Cursor} (xs ys : List ℕ) → xs ≡ ys → Wrote xs line next → Wrote ys line next
+wrote_same xs ys e w = record { put = put_same xs ys e w.put; same_reference = w.same_reference }
+
+module _ (xs ys : List ℕ) (line : Cursor) (room : line.at + length (xs ++ ys) ≤ length line.out.now) where
+  pub wrote_front : line.at + length xs ≤ length line.out.now
+  wrote_front = put_front xs ys line.at line.out.now room
+
+  module _ (next : Cursor) (w : Wrote xs line next) where
+    pub wrote_rest : next.at + length ys ≤ length next.out.now
+    wrote_rest = put_rest xs ys line.at line.out.now room next.out.now next.at w.put
+
+    pub wrote_then : (end : Cursor) → Wrote ys next end → Wrote (xs ++ ys) line end
+    wrote_then end v =
+        record {
+          put = put_then xs ys line.at line.out.now room next.out.now end.out.now next.at end.at w.put v.put;
+          same_reference = v.same_reference ∙ w.same_reference;
+        }
+
+-- where the room is told by lengths
+module _ (xs : List ℕ) (line next : Cursor) (w : Wrote xs line next) where
+  pub wrote_room : (n : ℕ) → line.at + length xs + n ≤ length line.out.now → next.at + n ≤ length next.out.now
+  wrote_room n room =
+      let e : next.at ≡ line.at + length xs = w.put.ends in
+      let l : length next.out.now ≡ length line.out.now = ap length w.put.held ∙ stored_length line.out.now xs line.at (omega arith) in
+      omega (arith, room)
+
+  pub wrote_both : (ys : List ℕ) (end : Cursor) → line.at + length xs + length ys ≤ length line.out.now → Wrote ys next end → Wrote (xs ++ ys) line end
+  wrote_both ys end room v = wrote_then xs ys line (omega (arith, room, length-append xs ys)) next w end v

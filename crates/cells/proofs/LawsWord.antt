@@ -184,9 +184,6 @@ modulus (suc (suc (suc (suc (suc (suc zero)))))) h = refl
 modulus (suc (suc (suc (suc (suc (suc (suc zero))))))) h = refl
 modulus (suc (suc (suc (suc (suc (suc (suc (suc n)))))))) h = absurd (omega arith)
 
-pub some_modulus : (n : ℕ) → n < 8 → 0 < 1 * 2 ^ (8 * n) % 18446744073709551616
-some_modulus n h = rw (modulus n h) (one-le-pow (8 - (8 - n)) 256 (omega arith))
-
 -- a text that ends eight bytes or more behind its area's start, and the word that ends with it
 module _ (area : List ℕ) (start len word : ℕ) (inside : start + len ≤ length area) (room : 8 ≤ start + len) (w : IsWord (drop (start + len - 8) area) word) where
   sized : length (take len (drop start area)) ≡ len

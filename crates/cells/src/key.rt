@@ -59,6 +59,7 @@ pub fn last_key(area: &[u8], payload: u64) -> u64
 }
 
 // Are two texts short and equal? No says nothing: they may be equal and long.
+#[inline(always)]
 pub fn short_same(a: &[u8], x: u64, b: &[u8], y: u64) -> bool
     ensures { result ≡ true → ShortSame a.now x b.now y }
 {

@@ -2,7 +2,7 @@
 ghost use Rattle.std.specs.Prelude.{◌≡◌, ◌+◌, ◌≤◌, length};
 ghost use Rattle.rules.specs.Value.{value_cells};
 ghost use Rattle.cells.specs.Value.{pair_of};
-ghost use Rattle.cells.specs.Out.{stored, Put};
+ghost use Rattle.cells.specs.Out.{stored, Put, Begins, Wrote};
 
 use crate::value::Pair;
 
@@ -36,4 +36,28 @@ pub fn write_bytes(text: &[u8], at: usize, out: &mut [u8]) -> usize
     let end = at + text.len();
     out[at..end].copy_from_slice(text);
     end
+}
+
+// Lent bytes, and where the next ones are written.
+#[derive(Drop)]
+pub struct Cursor<'a> {
+    pub out: &'a mut [u8],
+    pub at: usize,
+}
+
+impl<'a> Cursor<'a> {
+    // The first byte of what is lent.
+    pub fn new(out: &'a mut [u8]) -> Cursor<'a>
+        ensures { Begins out.entry result }
+    {
+        Cursor { out, at: 0 }
+    }
+
+    // Stores some bytes behind those that are written.
+    pub fn write(&mut self, text: &[u8])
+        requires { self.old.at + length text.now ≤ length self.old.out.now }
+        ensures { Wrote text.now self.old self.new }
+    {
+        self.at = write_bytes(text, self.at, self.out);
+    }
 }

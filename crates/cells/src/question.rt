@@ -7,23 +7,23 @@ ghost use Rattle.cells.specs.Question.{number_of};
 #[derive(Clone, Copy, Debug, PartialEq, Eq, Hash)]
 pub enum Question {
     // of a parameter record and its area
-    PartialStep,
-    UnknownCode,
-    NameOutside,
-    WrongDefault,
-    OutOfOrder,
-    TooManyParameters,
-    RepeatedParameter,
+    PartialStep = 1,
+    UnknownCode = 2,
+    NameOutside = 3,
+    WrongDefault = 4,
+    OutOfOrder = 5,
+    TooManyParameters = 6,
+    RepeatedParameter = 7,
     // of a call record and its area
-    WrongLength,
-    WrongKind,
-    MalformedPart,
-    RepeatedKey,
-    RepeatedName,
+    WrongLength = 9,
+    WrongKind = 10,
+    MalformedPart = 11,
+    RepeatedKey = 12,
+    RepeatedName = 13,
     // of what is lent for the answer
-    ShortBoard,
-    LargeNumbers,
-    ShortOutput,
+    ShortBoard = 14,
+    LargeNumbers = 25,
+    ShortOutput = 29,
 }
 
 impl Question {
@@ -31,22 +31,6 @@ impl Question {
     pub fn number(self) -> u64
         ensures { result ≡ number_of self }
     {
-        match self {
-            Question::PartialStep => 1,
-            Question::UnknownCode => 2,
-            Question::NameOutside => 3,
-            Question::WrongDefault => 4,
-            Question::OutOfOrder => 5,
-            Question::TooManyParameters => 6,
-            Question::RepeatedParameter => 7,
-            Question::WrongLength => 9,
-            Question::WrongKind => 10,
-            Question::MalformedPart => 11,
-            Question::RepeatedKey => 12,
-            Question::RepeatedName => 13,
-            Question::ShortBoard => 14,
-            Question::LargeNumbers => 25,
-            Question::ShortOutput => 29,
-        }
+        self as u64
     }
 }

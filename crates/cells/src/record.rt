@@ -6,6 +6,13 @@ ghost use Rattle.cells.specs.Record.{pair_at, key_at};
 
 use crate::value::{Key, Pair, read_key};
 
+// A record, and the area that its texts lie in.
+#[derive(Clone, Copy, Debug)]
+pub struct Record<'a> {
+    pub cells: &'a [u64],
+    pub area: &'a [u8],
+}
+
 pub fn cell(cells: &[u64], at: usize) -> u64
     ensures { result ≡ get_or cells.now at 0 }
 {

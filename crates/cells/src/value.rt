@@ -24,7 +24,7 @@ pub enum Value {
 }
 
 // The two cells of a value.
-#[derive(Clone, Copy)]
+#[derive(Clone, Copy, Debug, PartialEq, Eq)]
 pub struct Pair {
     pub kind: u64,
     pub payload: u64,
@@ -37,14 +37,14 @@ pub enum Key {
     Number(i64),
 }
 
-impl Value {
-    pub fn cells(self) -> Pair
-        ensures { result ≡ cells_of self }
-    {
-        match self {
+impl From<Value> for Pair {
+    ghost from_gives = { λ value cells. cells ≡ cells_of value };
+
+    fn from(value: Value) -> Pair {
+        match value {
             Value::Nothing => Pair::new(1, 0),
             Value::Flag(b) => Pair::new(2, b as u64),
-            Value::Whole(z) => Pair::new(3, bits_of_whole(z)),
+            Value::Whole(z) => Pair::new(3, z.cast_unsigned()),
             Value::Real(x) => Pair::new(4, bits_of_real(x)),
             Value::Nan(bits) => Pair::new(4, bits),
             Value::SpecText(t) => Pair::new(5, t.payload()),
@@ -109,7 +109,7 @@ fn read_as(text: u64, area: &[u8], kind: u64, payload: u64) -> Option<Value>
             }
             None
         }
-        3 => Some(Value::Whole(whole_of(payload))),
+        3 => Some(Value::Whole(payload.cast_signed())),
         4 => Some(real_of(payload)),
         7 => {
             if payload < 0x1_0000_0000 {
@@ -151,32 +151,13 @@ pub fn read_name(area: &[u8], kind: u64, payload: u64) -> Option<Text>
     }
 }
 
-// The highest bit alone: two's complement's sign, and a float's.
+// The highest bit alone, a float's sign.
 const SIGN: u64 = 0x8000_0000_0000_0000;
 
 // The patterns of two floats.
 const INFINITY: u64 = 0x7ff0_0000_0000_0000;
 
 const QUIET_NAN: u64 = 0x7ff8_0000_0000_0000;
-
-// Two's complement. `!` of a number below 0 is not below 0, so that each cast keeps its number.
-fn whole_of(payload: u64) -> i64
-    ensures { result ≡ to_z w64 payload }
-{
-    if payload < SIGN {
-        return payload as i64;
-    }
-    !((!payload) as i64)
-}
-
-fn bits_of_whole(z: i64) -> u64
-    ensures { result ≡ of_z w64 z }
-{
-    if z < 0 {
-        return !((!z) as u64);
-    }
-    z as u64
-}
 
 // With the sign taken off, a NaN's pattern is a number above infinity's.
 fn real_of(bits: u64) -> Value

@@ -2,39 +2,31 @@
 // end as the record does; and can-fill of P and N written out whole must foretell it.
 ghost use Rattle.std.specs.Prelude.{◌≤◌};
 
+use crate::case::Case;
 use crate::ending::{ending_of, filling_of};
 use answers::detail::name_of;
 use calls::head::{HEAD, PAIR, VALUE};
-use cells::record::cell;
+use cells::record::{Record, cell};
 use cuts::record::Cut;
 use cuts::{Trial, play};
 use replay::compare::{Place, fresh_board, join, same, same_board, same_name, same_numbers};
 use replay::numbers::from_to;
 
-// `cells` is the cut's record; what is expected of it stands in `numbers` from `at` on.
-pub fn same_cut(
-    numbers: &[u64],
-    at: &mut usize,
-    place: Place,
-    spec_cells: &[u64],
-    spec: &[u8],
-    cells: &[u64],
-    call: &[u8],
-    fill: u64,
-) -> bool {
+// `call` is the cut's record; what is expected of it stands in `numbers` from `at` on.
+pub fn same_cut(numbers: &[u64], at: &mut usize, place: Place, case: &Case, call: &Record) -> bool {
+    let cells = call.cells;
     let p = VALUE * limited(cell(cells, 0));
     let n = PAIR * limited(cell(cells, 1));
     let s = VALUE * limited(cell(cells, 3));
     let d = PAIR * limited(cell(cells, 5));
     let values = join(cells, HEAD, p, HEAD + p + n, s);
     let pairs = join(cells, HEAD + p, n, HEAD + p + n + s, d);
-    let mut board = fresh_board(fill);
+    let mut board = fresh_board(case.board.fill);
     let played = play(
-        spec_cells,
-        spec,
+        &case.spec,
         from_to(&values, 0, p + s),
         from_to(&pairs, 0, n + d),
-        call,
+        call.area,
         cut_of(cells),
         &mut board,
     );
@@ -42,8 +34,13 @@ pub fn same_cut(
         return same(place, b"played, which is outside", 1, 0);
     };
     let told = same_told(numbers, at, place, trial);
-    let named = same_name(numbers, at, place, name_of(spec, call, trial.collected));
-    let kept = same_board(numbers, at, place, fill, &board);
+    let named = same_name(
+        numbers,
+        at,
+        place,
+        name_of(case.spec.area, call.area, trial.collected),
+    );
+    let kept = same_board(numbers, at, place, case.board.fill, &board);
     told & named & kept
 }
 

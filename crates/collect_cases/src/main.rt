@@ -3,6 +3,7 @@
 // they come from. A line names each difference; the last lines count the cases.
 #![tactic(auto)]
 
+mod case;
 mod cut;
 mod ending;
 mod play;

@@ -29,6 +29,7 @@ one_parameter =
             len = 1;
           };
       indices = record { num_positional_only = 1; num_positional = 1; args = None; kwargs = None };
+      area = record { ref_ptr = (0, 0); now = 97 ∷ [] };
     }
 
 pub short_one : Short (97 ∷ []) one_parameter (1 ∷ 0 ∷ 0 ∷ 0 ∷ 0 ∷ 0 ∷ 1 ∷ 0 ∷ []) [] (replicate 896 0)

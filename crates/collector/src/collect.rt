@@ -12,10 +12,11 @@ use answers::answer::{Counts, Refusal};
 use builder::build;
 use builder::spec::ParametersSpec;
 use calls::ask_keys;
-use calls::head::{Head, named_from, read_head};
+use calls::head::{Call, Head, named_from};
 use calls::values::copy_written;
 use cells::question::Question;
-use findings::resolve::{NAMED, resolve_names};
+use cells::record::Record;
+use findings::resolve::{NAMED, Resolution, resolve_names};
 use questions::questions::judge;
 use slots::board::write_board;
 
@@ -23,41 +24,29 @@ use slots::board::write_board;
 pub const BOARD: usize = 896;
 
 // The records as they are lent, of any cells and bytes: the list is built, and the call bound against it.
-pub fn collect(
-    spec_cells: &[u64],
-    spec: &[u8],
-    call_cells: &[u64],
-    area: &[u8],
-    board: &mut [u64],
-) -> Result<Counts, Refusal>
-    ensures { Ends (collection 64 64 spec_cells.now spec.now call_cells.now area.now board.old) board.old board.new result }
+pub fn collect(spec: &Record, call: &Record, board: &mut [u64]) -> Result<Counts, Refusal>
+    ensures { Ends (collection 64 64 spec.now.cells.now spec.now.area.now call.now.cells.now call.now.area.now board.old) board.old board.new result }
 {
-    let list = build(spec_cells, spec)?;
-    bind(&list, spec, call_cells, area, board)
+    let list = build(spec)?;
+    bind(&list, call, board)
 }
 
 // A call against a list that `build` handed out: the step behind `collect` and `bind` of sheets. What it requires, `build` promises of each list.
 // Who binds against one list again and again has `prepared` for it, which requires nothing. 9 to 12 come first, and then the short path where it
 // applies: it is for calls without names, so that 13 has nothing to ask.
-pub fn bind(
-    list: &ParametersSpec,
-    spec: &[u8],
-    cells: &[u64],
-    area: &[u8],
-    board: &mut [u64],
-) -> Result<Counts, Refusal>
-    requires { Prepared spec.now list.now }
-    ensures { Ends (bound_to (parameters_in spec.now list.now.params) cells.now area.now board.old) board.old board.new result }
+pub fn bind(list: &ParametersSpec, record: &Record, board: &mut [u64]) -> Result<Counts, Refusal>
+    requires { Prepared list.now.area.now list.now }
+    ensures { Ends (bound_to (parameters_in list.now.area.now list.now.params) record.now.cells.now record.now.area.now board.old) board.old board.new result }
 {
-    ask_keys(cells, area)?;
-    let h = read_head(cells);
-    if !is_short(list.indices.num_positional, list.params.len, h) {
-        return collect_open(list, spec, cells, area, h, board);
+    ask_keys(record)?;
+    let call = Call::new(record);
+    if !is_short(list.indices.num_positional, list.params.len, call.head) {
+        return collect_open(list, &call, board);
     }
     if board.len() < BOARD {
         return Err(Refusal::Record(Question::ShortBoard));
     }
-    Ok(collect_inline(cells, h, board))
+    Ok(collect_inline(&call, board))
 }
 
 // Does the short path apply? Of the list no more is asked than how many parameters it has and how many are positional.
@@ -68,13 +57,13 @@ fn is_short(positional: usize, len: usize, h: Head) -> bool
 }
 
 // The short path: each value is its parameter's slot.
-fn collect_inline(cells: &[u64], h: Head, board: &mut [u64]) -> Counts
-    requires { InlineReady cells.now (head_of h) board.old }
-    ensures { InlineEnds cells.now (head_of h) board.old board.new (Ok result) }
+fn collect_inline(call: &Call, board: &mut [u64]) -> Counts
+    requires { InlineReady call.now.cells.now (head_of call.now.head) board.old }
+    ensures { InlineEnds call.now.cells.now (head_of call.now.head) board.old board.new (Ok result) }
 {
-    copy_written(cells, h, board);
+    copy_written(call, board);
     Counts {
-        taken: h.p,
+        taken: call.head.p,
         defaulted: 0,
         star: 0,
         named: 0,
@@ -84,63 +73,37 @@ fn collect_inline(cells: &[u64], h: Head, board: &mut [u64]) -> Counts
 // A call that passed 9 to 12 and that the short path isn't for: 13, by what its names are found to mean, then 14 and the general path.
 pub fn collect_open(
     list: &ParametersSpec,
-    spec: &[u8],
-    cells: &[u64],
-    area: &[u8],
-    h: Head,
+    call: &Call,
     board: &mut [u64],
 ) -> Result<Counts, Refusal>
-    requires { OpenReady spec.now list.now cells.now area.now (head_of h) }
-    ensures { Ends (bound_to (parameters_in spec.now list.now.params) cells.now area.now board.old) board.old board.new result }
+    requires { OpenReady list.now.area.now list.now call.now.cells.now call.now.area.now (head_of call.now.head) }
+    ensures { Ends (bound_to (parameters_in list.now.area.now list.now.params) call.now.cells.now call.now.area.now board.old) board.old board.new result }
 {
+    let h = call.head;
     let next = (h.p + h.s).min(list.indices.num_positional);
-    let from = named_from(h);
-    let mut sources = [0; 64];
-    let mut rest = [0; NAMED];
-    let count = resolve_names(
-        &list.params,
-        spec,
-        cells,
-        area,
-        from,
-        h.n,
+    let mut resolved = Resolution {
+        sources: [0; 64],
+        rest: [0; NAMED],
+        count: 0,
         next,
-        &mut sources,
-        &mut rest,
-    )?;
+    };
+    resolve_names(list, call, named_from(h), h.n, &mut resolved)?;
     if board.len() < BOARD {
         return Err(Refusal::Record(Question::ShortBoard));
     }
-    collect_slow(
-        list,
-        spec,
-        cells,
-        area,
-        h,
-        next,
-        &mut sources,
-        &mut rest,
-        count,
-        board,
-    )
+    collect_slow(list, call, &mut resolved, board)
 }
 
 // The general path, of a call whose written names are resolved: 15 to 24, and then the board.
 fn collect_slow(
     list: &ParametersSpec,
-    spec: &[u8],
-    cells: &[u64],
-    area: &[u8],
-    h: Head,
-    next: usize,
-    sources: &mut [usize; 64],
-    rest: &mut [usize; NAMED],
-    before: usize,
+    call: &Call,
+    resolved: &mut Resolution,
     board: &mut [u64],
 ) -> Result<Counts, Refusal>
-    requires { SlowReady spec.now list.now cells.now area.now (head_of h) next sources.old rest.old before board.old }
-    ensures { SlowEnds spec.now list.now cells.now area.now board.old board.new result }
+    requires { SlowReady list.now.area.now list.now call.now.cells.now call.now.area.now (head_of call.now.head) resolved.old.next resolved.old.sources resolved.old.rest resolved.old.count board.old }
+    ensures { SlowEnds list.now.area.now list.now call.now.cells.now call.now.area.now board.old board.new result }
 {
-    let count = judge(list, spec, cells, area, h, next, sources, rest, before)?;
-    Ok(write_board(list, cells, h, next, sources, rest, count, board))
+    judge(list, call, resolved)?;
+    Ok(write_board(list, call, resolved, board))
 }

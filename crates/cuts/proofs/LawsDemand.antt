@@ -100,9 +100,6 @@ module _ (positionals named : List ℕ) (c : Cut) (fits : Fits positionals named
 
   -- ---- the cells that are written
 
-  pub few_cells : 6 + length positionals + length named ≤ 390
-  few_cells = omega (arith, fits.whole_values, fits.whole_pairs, fits.few_values, fits.few_pairs)
-
   cut_length : length (encode_call (cut_record (values_of positionals) (pairs_of named) c)) ≡ 6 + length positionals + length named
   cut_length =
       let s : ℕ = length positionals / 2 - c.at_p in

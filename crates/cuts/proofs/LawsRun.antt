@@ -5,13 +5,14 @@ use mathlib.Core.List.{List, ◌∷◌, ◌++◌, append_assoc}
 use Prim.Native.Nat.{ℕ, zero, suc, ◌+◌, ◌-◌, ◌*◌, ◌≤◌}
 use native.Mathlib.Nat.{mul-suc}
 use native.Mathlib.Omega.{arith}
-use lib.ListN.{length, take, drop}
+use lib.ListN.{length, take, drop, length-drop}
 use lib.Seq.{drop-drop}
 use Rattle.rules.specs.Cells.{read_each, write_each}
 use Rattle.rules.specs.Value.{value_width, value_cells, read_value}
 use Rattle.rules.specs.CallRecord.{pair_width, pair_cells, read_pair}
 use Rattle.rules.proofs.LawsRecord.{length_write_each, value_cells_wide}
 use Rattle.calls.proofs.LawsEach.{each_length}
+use Rattle.calls.proofs.LawsWritten.{value_cells_lem}
 use Rattle.cuts.specs.Record.{run_of}
 
 pub run_length : (cells : List ℕ) (from count : ℕ) → length (run_of cells from count) ≡ 2 * count
@@ -19,6 +20,10 @@ unfolding value_width
 run_length cells from count =
     length_write_each 2 read_value value_cells value_cells_wide (read_each 2 read_value count (drop from cells))
     ∙ ap (λ n. 2 * n) (each_length 2 read_value count (drop from cells))
+
+-- the cells that a copy takes are the run
+pub run_is : (cells : List ℕ) (from count : ℕ) → from + 2 * count ≤ length cells → take (2 * count) (drop from cells) ≡ run_of cells from count
+run_is cells from count h = sym (value_cells_lem count (drop from cells) (rw (length-drop from cells) (omega arith)))
 
 -- ---- the first things of a run, and the rest of them
 

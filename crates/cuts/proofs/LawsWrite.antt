@@ -8,33 +8,14 @@ use native.Mathlib.Omega.{arith}
 use lib.ListN.{length, take, drop, length-append}
 use borrow.Author.Tests.{lt-ltb}
 use Rattle.rules.specs.Cells.{read_each, write_each, over}
-use Rattle.rules.specs.Value.{Value, value_width, value_cells, read_value}
+use Rattle.rules.specs.Value.{value_width, value_cells, read_value}
 use Rattle.rules.specs.CallRecord.{CallRecord, pair_width, pair_cells, read_pair, encode_call}
 use Rattle.rules.specs.Demand3.{Cut, rest_kind, cut_record}
 use Rattle.cells.specs.Out.{stored}
-use Rattle.cells.specs.Value.{value}
 use Rattle.cells.proofs.LawsOut.{stored_over}
 use Rattle.calls.proofs.LawsEach.{each_length}
 use Rattle.cuts.specs.Record.{values_of, pairs_of, kind_of, head_cells, run_of, Fits}
 use Rattle.cuts.proofs.LawsRun.{take_each_lem, drop_each, pairs_values}
-
--- ---- the head
-
-module _ (c : Cut) (s d : ℕ) (out one two three : List ℕ) (x y z : Value) where
-  pub head_stored : 6 ≤ length out → one ≡ stored out 0 (value_cells x) → two ≡ stored one 2 (value_cells y) → three ≡ stored two 4 (value_cells z)
-      → x ≡ value c.at_p c.at_n → y ≡ value (kind_of c.list_given s) s → z ≡ value (kind_of c.dictionary_given d) d
-      → three ≡ over (head_cells c s d) out
-  unfolding value_cells over
-  head_stored long first second third is_x is_y is-z = last ∙ ap (λ l. over l out) (ap₂ (λ a b. (value_cells a ++ value_cells b) ++ value_cells z) is_x is_y ∙ ap (λ b. (value_cells (value c.at_p c.at_n) ++ value_cells (value (kind_of c.list_given s) s)) ++ value_cells b) is-z)
-    where
-      once : one ≡ over (value_cells x) out
-      once = first ∙ stored_over out [] out (value_cells x) 0 refl refl (omega arith)
-
-      twice : two ≡ over (value_cells x ++ value_cells y) out
-      twice = second ∙ stored_over one (value_cells x) out (value_cells y) 2 once refl (omega arith)
-
-      last : three ≡ over ((value_cells x ++ value_cells y) ++ value_cells z) out
-      last = third ∙ stored_over two (value_cells x ++ value_cells y) out (value_cells z) 4 twice refl (omega arith)
 
 -- ---- the whole record
 

@@ -11,6 +11,7 @@ use calls::ask_call;
 use calls::head::{HEAD, PAIR, VALUE};
 use can_fill::can_fill_with_args;
 use cells::question::Question;
+use cells::record::Record;
 use collector::collect::{BOARD, collect};
 use record::{CELLS, Cut, write_cut};
 
@@ -26,15 +27,14 @@ pub struct Trial {
 // One cut, of any cells and bytes that are lent: `positionals` holds P, two cells a value, and `named` N, four cells a pair. Where demand 3 does not
 // speak nothing is played.
 pub fn play(
-    spec_cells: &[u64],
-    spec: &[u8],
+    spec: &Record,
     positionals: &[u64],
     named: &[u64],
     area: &[u8],
     cut: Cut,
     board: &mut [u64],
 ) -> Option<Trial>
-    ensures { Playing spec_cells.now spec.now positionals.now named.now area.now (cut_of cut) board.old board.new result }
+    ensures { Playing spec.now.cells.now spec.now.area.now positionals.now named.now area.now (cut_of cut) board.old board.new result }
 {
     let values = positionals.len();
     let pairs = named.len();
@@ -52,14 +52,11 @@ pub fn play(
     let mut cut_cells = [0; CELLS];
     write_cut(positionals, named, cut, &mut cut_cells);
     let len = HEAD + values + pairs;
-    try_cut(
-        spec_cells,
-        spec,
-        &whole_cells[..len],
-        &cut_cells[..len],
+    let record = Record {
+        cells: &whole_cells[..len],
         area,
-        board,
-    )
+    };
+    try_cut(spec, &record, &cut_cells[..len], board)
 }
 
 // Are there whole values and pairs, at most 64 of each, and is the cut within them?
@@ -74,22 +71,20 @@ fn sizes_right(values: usize, pairs: usize, cut: Cut) -> bool
         && cut.at_n <= pairs / PAIR
 }
 
-// Both records as they were written: nothing is collected unless the list, the whole record and the board pass their questions.
-fn try_cut(
-    spec_cells: &[u64],
-    spec: &[u8],
-    whole: &[u64],
-    cells: &[u64],
-    area: &[u8],
-    board: &mut [u64],
-) -> Option<Trial>
-    ensures { Tried spec_cells.now spec.now whole.now cells.now area.now board.old board.new result }
+// Both records as they were written, over one area: the whole one, and the cells of the cut's. Nothing is collected unless the list, the
+// whole record and the board pass their questions.
+fn try_cut(spec: &Record, whole: &Record, cells: &[u64], board: &mut [u64]) -> Option<Trial>
+    ensures { Tried spec.now.cells.now spec.now.area.now whole.now.cells.now cells.now whole.now.area.now board.old board.new result }
 {
-    if !records_pass(spec_cells, spec, whole, area, board.len()) {
+    if !records_pass(spec, whole, board.len()) {
         return None;
     }
-    let foretold = can_fill_with_args(spec_cells, spec, whole, area);
-    let collected = collect(spec_cells, spec, cells, area, board);
+    let foretold = can_fill_with_args(spec, whole);
+    let cut = Record {
+        cells,
+        area: whole.area,
+    };
+    let collected = collect(spec, &cut, board);
     Some(Trial {
         collected,
         foretold,
@@ -97,8 +92,8 @@ fn try_cut(
 }
 
 // Questions 1 to 7 of the list, 9 to 13 of P and N written out whole, and 14 of a board with `room` cells.
-fn records_pass(spec_cells: &[u64], spec: &[u8], whole: &[u64], area: &[u8], room: usize) -> bool
-    ensures { result ≡ records_pass spec_cells.now spec.now whole.now area.now room }
+fn records_pass(spec: &Record, whole: &Record, room: usize) -> bool
+    ensures { result ≡ records_pass spec.now.cells.now spec.now.area.now whole.now.cells.now whole.now.area.now room }
 {
-    build(spec_cells, spec).is_ok() && ask_call(whole, area).is_ok() && BOARD <= room
+    build(spec).is_ok() && ask_call(whole).is_ok() && BOARD <= room
 }

@@ -1,14 +1,12 @@
 // The call record of a cut (01, cells, texts and records): the fronts of P and N written out, their rests behind the stars.
-ghost use Rattle.std.specs.Prelude.{◌≡◌, ◌+◌, ◌*◌, ◌≤◌, length};
+ghost use Rattle.std.specs.Prelude.{◌≡◌, ◌≤◌, length};
 ghost use Rattle.rules.specs.Cells.{over};
 ghost use Rattle.rules.specs.CallRecord.{encode_call};
 ghost use Rattle.rules.specs.Demand3.{cut_record};
-ghost use Rattle.cells.specs.Out.{stored};
-ghost use Rattle.cuts.specs.Record.{cut_of, values_of, pairs_of, kind_of, head_cells, run_of, Fits};
+ghost use Rattle.cuts.specs.Record.{cut_of, values_of, pairs_of, kind_of, head_cells, Fits};
 
-use calls::head::{HEAD, PAIR, VALUE};
-use cells::out::put;
-use cells::value::Pair;
+use calls::head::{HEAD, Head, PAIR, VALUE};
+use calls::values::copy_values;
 
 // How many of P and of N are written out, and whether a rest that is empty is given all the same.
 #[derive(Clone, Copy, Debug, PartialEq, Eq)]
@@ -38,24 +36,27 @@ pub(crate) fn write_cut(positionals: &[u64], named: &[u64], cut: Cut, out: &mut 
     let front = 2 * cut.at_n;
     let rest = 2 * d;
     write_head(cut, s, d, out);
-    copy_values(positionals, 0, cut.at_p, out, HEAD);
-    copy_values(named, 0, front, out, named_at);
-    copy_values(positionals, front_p, s, out, items_at);
-    copy_values(named, front_n, rest, out, entries_at);
+    copy_values(positionals, 0, cut.at_p, HEAD, out);
+    copy_values(named, 0, front, named_at, out);
+    copy_values(positionals, front_p, s, items_at, out);
+    copy_values(named, front_n, rest, entries_at, out);
 }
 
 // The six cells of a cut that leaves `s` values and `d` pairs for the stars.
+#[tactic(auto, using(cells::proofs::LawsOut::stored_first))]
 fn write_head(cut: Cut, s: usize, d: usize, out: &mut [u64])
     requires { 6 ≤ length out.old }
     ensures { out.new ≡ over (head_cells (cut_of cut) s d) out.old }
 {
-    put(out, 0, Pair::new(cut.at_p as u64, cut.at_n as u64));
-    put(out, 2, Pair::new(rest_kind(cut.list_given, s), s as u64));
-    put(
-        out,
-        4,
-        Pair::new(rest_kind(cut.dictionary_given, d), d as u64),
-    );
+    let head = Head {
+        p: cut.at_p,
+        n: cut.at_n,
+        star_kind: rest_kind(cut.list_given, s),
+        s,
+        double_kind: rest_kind(cut.dictionary_given, d),
+        d,
+    };
+    head.write(out);
 }
 
 // The kind of a star with `count` things in it: only an empty one can be left out.
@@ -63,13 +64,4 @@ fn rest_kind(given: bool, count: usize) -> u64
     ensures { result ≡ kind_of given count }
 {
     (given || 0 < count) as u64
-}
-
-// `count` values that stand from cell `from` on, stored from cell `at` on.
-fn copy_values(cells: &[u64], from: usize, count: usize, out: &mut [u64], at: usize)
-    requires { (from + 2 * count ≤ length cells.now) × (at + 2 * count ≤ length out.old) }
-    ensures { out.new ≡ stored out.old at (run_of cells.now from count) }
-{
-    let len = VALUE * count;
-    out[at..at + len].copy_from_slice(&cells[from..from + len]);
 }

@@ -1,10 +1,9 @@
 -- Laws of entries: a name among those of the remainder's pairs, which is that of one of them or of none.
 -- Assumes nothing.
-use Rattle.std.specs.Prelude.{Option, Some, None}
 use mathlib.Core.Path.{◌≡◌, refl, sym, ap, ◌∙◌}
-use mathlib.Core.Bool.{Bool, true, false, cond, ◌||◌, or-true}
+use mathlib.Core.Bool.{true, false, cond, ◌||◌, or-true}
 use mathlib.Core.List.{List, [], ◌∷◌, map}
-use Prim.Native.Nat.{ℕ, zero, suc, ◌+◌, min, ◌<◌}
+use Prim.Native.Nat.{ℕ, zero, suc, ◌<◌}
 use native.Mathlib.Omega.{arith}
 use lib.ListN.{length, get_or}
 use Rattle.rules.specs.Text.{same_bytes, bytes_at, inside, text_in, among}
@@ -12,10 +11,7 @@ use Rattle.rules.specs.CallRecord.{named_in, read_pair}
 use Rattle.rules.specs.Binding.{texts_of}
 use Rattle.cells.specs.Text.{part_at}
 use Rattle.cells.specs.Record.{pair_at}
-use Rattle.builder.specs.declared.params.Parameters.{Parameters}
-use Rattle.lookup.specs.Lookup.{fits_at, first_at, find_in}
 use Rattle.findings.specs.Resolved.{named_at}
-use Rattle.findings.specs.Resolve.{Below}
 
 -- a name of a pair that lies inside the area is the part that its payload names
 pub name_part : (area cells : List ℕ) (pair : ℕ) → inside area (pair_at cells pair).payload ≡ true → (named_at area cells pair).name.bytes ≡ part_at area (pair_at cells pair).payload
@@ -34,21 +30,3 @@ module _ (area cells name : List ℕ) where
   unfolding texts_of
   among_none [] h = refl
   among_none (pair ∷ pairs) h = ap (λ b. b || among name (texts_of (map (named_at area cells) pairs))) (h 0 (omega arith)) ∙ among_none pairs (λ k l. h (suc k) (omega arith))
-
--- ---- what is found is an index of the parameters
-
-first_below : (test : ℕ → Bool) (i n : ℕ) (k : ℕ) → first_at test i n ≡ Some k → k < i + n
-first_below test i zero k e = let z : ◌≡◌ {A = ℕ} 0 1 = cc in absurd (omega arith)
-first_below test i (suc n) k e = go (test i) e (first_below test (suc i) n k)
-  where
-    go : (b : Bool) → cond b (Some i) (first_at test (suc i) n) ≡ Some k → (first_at test (suc i) n ≡ Some k → k < suc i + n) → k < i + suc n
-    go true f ih = let same : i ≡ k = cc in omega arith
-    go false f ih = let l : k < suc i + n = ih f in omega arith
-
-pub find_in_below : (area : List ℕ) (p : Parameters) (b : List ℕ) → Below 64 (find_in area p b)
-unfolding find_in
-find_in_below area p b = go (first_at (fits_at area p b) 0 (min p.len 64)) refl
-  where
-    go : (f : Option ℕ) → first_at (fits_at area p b) 0 (min p.len 64) ≡ f → Below 64 f
-    go (Some i) e = let l : i < 0 + min p.len 64 = first_below (fits_at area p b) 0 (min p.len 64) i e in omega arith
-    go None e = tt

@@ -23,12 +23,12 @@ use Rattle.calls.specs.Head.{Few, named_from, items_from, entries_from}
 use Rattle.lookup.specs.Lookup.{finding_of}
 use Rattle.calls.proofs.LawsNamed.{key_inside}
 use Rattle.findings.specs.Resolved.{named_at, Resolved}
-use Rattle.findings.specs.Resolve.{Below, pairs_from, sources_after, rest_after, count_after}
+use Rattle.findings.specs.Resolve.{pairs_from, sources_after, rest_after, count_after}
 use Rattle.findings.specs.Entries.{Held, entered_at, entry_refused, entry_answer}
 use Rattle.findings.specs.EntriesDone.{written_names, entry_at, entries_in, EntriesReady}
 use Rattle.answers.specs.declared.answer.EntryRefusal.{EntryRefusal}
 use Rattle.answers.specs.declared.answer.EntryRefusal.TheVariants.{NotText, Repeated}
-use Rattle.findings.proofs.LawsResolved.{entered, entered_below}
+use Rattle.findings.proofs.LawsResolved.{entered}
 use Rattle.findings.proofs.LawsNames.{any_parameter, few_list}
 use Rattle.findings.proofs.LawsEntry.{entry_answer_lem, entry_free}
 
@@ -115,9 +115,6 @@ module _ (spec : List ℕ) (l : ParametersSpec) (cells area : List ℕ) (h : Hea
       fresh_name : among (named_at area cells pair).name.bytes (texts_of before) ≡ false
       unfolding named_at named_in text_in read_pair pair_at
       fresh_name = facts.2
-
-      pub below_free : Below 64 f
-      below_free = entered_below qs cells area ready.list.apart (few_list spec l cells area ready.list) before sources rest count pair f found_name
 
       pub resolved_free : Resolved qs cells area (written_names area cells h ++ pairs_from area cells (entries_from h) (k + 1)) (sources_after f pair sources) (rest_after f pair count rest) (count_after f count)
       resolved_free =

@@ -25,9 +25,9 @@ use Rattle.cells.proofs.LawsListed.{length_listed, listed_next, listed_more}
 use Rattle.lookup.specs.Lookup.{find_in, finding_of}
 use Rattle.lookup.proofs.LawsBuilt.{lookup_columns, one_fits}
 use Rattle.findings.specs.Resolved.{named_at, Resolved}
-use Rattle.findings.specs.Resolve.{found_in, found_at, Below, OneEach, sources_after, rest_after, count_after, pairs_from, Prepared, Naming}
+use Rattle.findings.specs.Resolve.{found_in, found_at, OneEach, sources_after, rest_after, count_after, pairs_from, Prepared, Naming}
 use Rattle.findings.specs.Entries.{held_names, repeats_by}
-use Rattle.findings.proofs.LawsResolved.{repeats_is, entered, entered_below}
+use Rattle.findings.proofs.LawsResolved.{repeats_is, entered}
 use Rattle.findings.proofs.LawsEntries.{name_part}
 
 -- a parameter to read past the end of a list
@@ -107,9 +107,6 @@ module _ (spec : List ℕ) (l : ParametersSpec) (cells area : List ℕ) (from n 
 
   pair_found : finding_of found ≡ find qs (named_at area cells pair).name.bytes
   pair_found = found_is spec l cells area naming.list pair (naming.pairs.named k below).inside
-
-  pub naming_below : Below 64 found
-  naming_below = entered_below qs cells area naming.list.apart (few_list spec l cells area naming.list) before sources₀ rest₀ 0 pair found pair_found
 
   pub naming_few : length before < 128
   naming_few = omega (arith, length_listed (λ i. named_at area cells (from + 4 * i)) 0 k, naming.pairs.few)

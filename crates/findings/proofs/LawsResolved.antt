@@ -28,7 +28,7 @@ use Rattle.rules.proofs.LawsPlacement.{is_some, partner_some}
 use Rattle.rules.proofs.LawsFound.{is_at, is_found, known_found, names_at, or_else, partner_snoc, keep_snoc, among_named, among_unknown}
 use Rattle.lookup.specs.Lookup.{finding_of}
 use Rattle.findings.specs.Resolved.{source_value, named_at, NamedPair, Resolved}
-use Rattle.findings.specs.Resolve.{Below, sources_after, rest_after, count_after}
+use Rattle.findings.specs.Resolve.{sources_after, rest_after, count_after}
 use Rattle.findings.specs.Entries.{held_names, repeats_by}
 
 -- a source that is not 0
@@ -175,7 +175,3 @@ module _ (qs : List Parameter) (cells area : List ℕ) (apart : names_apart [] q
       (omega (arith, r.slots, find_within qs (named_at area cells pair).name.bytes i (sym e)))
   entered r None e fresh few placed d =
       resolved_unknown qs cells area apart N sources rest count r pair (sym e) (omega (arith, r.pairs, r.in_rest)) placed
-
-  pub entered_below : (f : Found ℕ) → finding_of f ≡ find qs (named_at area cells pair).name.bytes → Below 64 f
-  entered_below (Some i) e = omega (arith, find_within qs (named_at area cells pair).name.bytes i (sym e))
-  entered_below None e = tt

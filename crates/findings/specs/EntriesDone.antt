@@ -8,14 +8,13 @@ use Rattle.rules.specs.Binding.{ask_entries}
 use Rattle.cells.specs.Record.{pair_at}
 use Rattle.cells.specs.Listed.{listed}
 use Rattle.builder.specs.Params.{parameters_in}
-use Rattle.builder.specs.declared.params.Parameters.{Parameters}
 use Rattle.builder.specs.declared.spec.DefParamIndices.{DefParamIndices}
 use Rattle.builder.specs.declared.spec.ParametersSpec.{ParametersSpec}
 use Rattle.calls.specs.Head.{Few, named_from, entries_from}
 use Rattle.answers.specs.declared.answer.EntryRefusal.{EntryRefusal}
 use Rattle.findings.specs.Resolved.{Resolved}
 use Rattle.findings.specs.Entries.{entry_refused}
-use Rattle.findings.specs.Resolve.{Prepared, pairs_from, lent_list}
+use Rattle.findings.specs.Resolve.{Prepared, pairs_from, with_indices}
 
 -- the written names of a call, and its entries from the k-th on
 abbrev pub written_names : List ℕ → List ℕ → Head → List Named
@@ -49,12 +48,12 @@ pub record EntriesDone (spec : List ℕ) (l : ParametersSpec) (cells area : List
       : (count : ℕ) → r ≡ Ok count
       → Resolved (parameters_in spec l.params) cells area (written_names area cells h ++ pairs_from area cells (entries_from h) h.d) sources rest count
 
--- the same against parameters that are lent: they are those of such a list, and what is promised holds of each such list that has them
-pub record EntriesLent (spec : List ℕ) (p : Parameters) (cells area : List ℕ) (h : Head) (next : ℕ) (sources rest : List ℕ) (count : ℕ) : Type 0 where
+-- the same against the parameters of a list alone: with some indices it is such a list, and what is promised holds of each that it then is
+pub record EntriesLent (spec : List ℕ) (l : ParametersSpec) (cells area : List ℕ) (h : Head) (next : ℕ) (sources rest : List ℕ) (count : ℕ) : Type 0 where
   pub indices : DefParamIndices
-  pub ready : EntriesReady spec (lent_list p indices) cells area h next sources rest count
+  pub ready : EntriesReady spec (with_indices l indices) cells area h next sources rest count
 
-abbrev pub EntriesResolved : (spec : List ℕ) (p : Parameters) (cells area : List ℕ) (h : Head) (next : ℕ) (sources rest : List ℕ) (count : ℕ) (sources₁ rest₁ : List ℕ) (r : Result ℕ EntryRefusal) → Type 0
-EntriesResolved spec p cells area h next sources rest count sources₁ rest₁ r =
-    (o : DefParamIndices) → EntriesReady spec (lent_list p o) cells area h next sources rest count
-    → EntriesDone spec (lent_list p o) cells area h next sources₁ rest₁ r
+abbrev pub EntriesResolved : (spec : List ℕ) (l : ParametersSpec) (cells area : List ℕ) (h : Head) (next : ℕ) (sources rest : List ℕ) (count : ℕ) (sources₁ rest₁ : List ℕ) (r : Result ℕ EntryRefusal) → Type 0
+EntriesResolved spec l cells area h next sources rest count sources₁ rest₁ r =
+    (o : DefParamIndices) → EntriesReady spec (with_indices l o) cells area h next sources rest count
+    → EntriesDone spec (with_indices l o) cells area h next sources₁ rest₁ r

@@ -31,11 +31,6 @@ found_at spec l area cells pair = found_in spec l.params area cells pair
 abbrev pub OneEach : List ℕ → Parameters → Type 0
 OneEach spec p = (bytes : List ℕ) → OneFits spec p bytes
 
--- an index that is found is below n
-abbrev pub Below : ℕ → Option ℕ → Type 0
-Below n (Some i) = i < n
-Below n None = Unit
-
 abbrev pub sources_after : Option ℕ → ℕ → List ℕ → List ℕ
 sources_after (Some i) pair sources = set sources i (pair + 2)
 sources_after None pair sources = sources
@@ -48,6 +43,11 @@ abbrev pub count_after : Option ℕ → ℕ → ℕ
 count_after (Some i) count = count
 count_after None count = count + 1
 
+-- what ends with a count that is kept elsewhere
+abbrev pub with_count : {E : Type 0} → Result Unit E → ℕ → Result ℕ E
+with_count (Ok u) count = Ok count
+with_count (Err e) count = Err e
+
 -- a list of the code that binding can lean on: it is the list that its columns are, and that list is one that passes 1 to 7
 pub record Prepared (area : List ℕ) (l : ParametersSpec) : Type 0 where
   pub is_list : IsList area l (parameters_in area l.params)
@@ -55,9 +55,9 @@ pub record Prepared (area : List ℕ) (l : ParametersSpec) : Type 0 where
   pub apart : names_apart [] (parameters_in area l.params) ≡ true
   pub inside : all (name_inside area) (parameters_in area l.params) ≡ true
 
--- the list whose parameters are lent
-abbrev pub lent_list : Parameters → DefParamIndices → ParametersSpec
-lent_list p indices = record { params = p; indices = indices }
+-- a list with other indices
+abbrev pub with_indices : ParametersSpec → DefParamIndices → ParametersSpec
+with_indices l indices = record { params = l.params; indices = indices; area = l.area }
 
 -- the named values of `count` pairs from a cell on
 abbrev pub pairs_from : List ℕ → List ℕ → ℕ → ℕ → List Named
@@ -76,10 +76,10 @@ pub record Naming (spec : List ℕ) (l : ParametersSpec) (cells area : List ℕ)
   pub pairs : Pairs area cells from count
   pub empty : Resolved (parameters_in spec l.params) cells area [] sources rest 0
 
--- the same against parameters that are lent: they are those of such a list
-pub record NamesLent (spec : List ℕ) (p : Parameters) (cells area : List ℕ) (from count : ℕ) (sources rest : List ℕ) : Type 0 where
+-- the same against the parameters of a list alone: with some indices it is such a list
+pub record NamesLent (spec : List ℕ) (l : ParametersSpec) (cells area : List ℕ) (from count : ℕ) (sources rest : List ℕ) : Type 0 where
   pub indices : DefParamIndices
-  pub naming : Naming spec (lent_list p indices) cells area from count sources rest
+  pub naming : Naming spec (with_indices l indices) cells area from count sources rest
 
 -- the answer is that of 13, and without a refusal the names are resolved
 pub record NamesEnd (qs : List Parameter) (cells area : List ℕ) (written : List Named) (sources rest : List ℕ) (r : Result ℕ Question) : Type 0 where
@@ -87,7 +87,7 @@ pub record NamesEnd (qs : List Parameter) (cells area : List ℕ) (written : Lis
   pub repeated : (q : Question) → r ≡ Err q → (q ≡ RepeatedName) × (differ (texts_of written) ≡ false)
 
 -- what is promised holds of each such list that has these parameters
-abbrev pub NamesResolved : (spec : List ℕ) (p : Parameters) (cells area : List ℕ) (from count : ℕ) (sources rest sources₁ rest₁ : List ℕ) (r : Result ℕ Question) → Type 0
-NamesResolved spec p cells area from count sources rest sources₁ rest₁ r =
-    (o : DefParamIndices) → Naming spec (lent_list p o) cells area from count sources rest
-    → NamesEnd (parameters_in spec p) cells area (pairs_from area cells from count) sources₁ rest₁ r
+abbrev pub NamesResolved : (spec : List ℕ) (l : ParametersSpec) (cells area : List ℕ) (from count : ℕ) (sources rest sources₁ rest₁ : List ℕ) (r : Result ℕ Question) → Type 0
+NamesResolved spec l cells area from count sources rest sources₁ rest₁ r =
+    (o : DefParamIndices) → Naming spec (with_indices l o) cells area from count sources rest
+    → NamesEnd (parameters_in spec l.params) cells area (pairs_from area cells from count) sources₁ rest₁ r

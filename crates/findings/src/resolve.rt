@@ -1,136 +1,131 @@
 // Each name of a call resolved once (01, collector): for each parameter the cell of the value that a name gives it, and the pairs that
 // name no parameter, in their order. They answer 13 while they are made, and 16, 19, 24 and placement work on them.
 // Reworked from starlark 0.14.2, src/eval/runtime/params/spec.rs (collect_slow), Apache-2.0.
-ghost use Rattle.std.specs.Prelude.{◌≡◌, ◌+◌, ◌*◌, ◌<◌, ◌^◌, length};
+ghost use Rattle.std.specs.Prelude.{◌≡◌, not, ◌<◌, ◌^◌, eqb, get_or};
+ghost use Rattle.rules.specs.Text.{among};
+ghost use Rattle.rules.specs.Binding.{texts_of};
 ghost use Rattle.cells.specs.Text.{part_at};
 ghost use Rattle.cells.specs.Record.{pair_at};
-ghost use Rattle.findings.specs.Resolve.{Below, OneEach, found_in, sources_after, rest_after, count_after, NamesLent, NamesResolved};
+ghost use Rattle.findings.specs.Resolve.{OneEach, found_in, sources_after, rest_after, count_after, with_count, NamesLent, NamesResolved};
 ghost use Rattle.findings.specs.Entries.{Held, held_names, repeats_by};
 
-use crate::entries::in_rest;
-use builder::params::Parameters;
+use builder::spec::ParametersSpec;
+use calls::head::{Call, PAIR};
 use cells::question::Question;
 use cells::record::pair_at;
-use cells::text::part;
-use lookup::{find_from, find_near};
+use cells::text::{part, same};
+use lookup::find_near;
 
 // The pairs of N, at most 64 written and 64 entries.
 pub const NAMED: usize = 128;
 
-// The parameter that the pair at a cell names. The search starts at `near`.
-pub fn found_at(
-    params: &Parameters,
-    spec: &[u8],
-    cells: &[u64],
-    area: &[u8],
-    pair: usize,
-    near: usize,
-) -> Option<usize>
-    requires { OneEach spec.now params.now }
-    ensures { result ≡ found_in spec.now params.now area.now cells.now pair }
-{
-    let key = pair_at(cells, pair);
-    find_from(params, spec, near, part(area, key.payload))
+// What the arguments of a call are resolved to.
+#[derive(Clone, Copy)]
+pub struct Resolution {
+    // For each parameter the cell of the value that a name gives it, 0 where none does: cell 0 of a call record is a count, so no value stands
+    // there.
+    pub sources: [usize; 64],
+    // The pairs that name no parameter, in their order ..
+    pub rest: [usize; NAMED],
+    // .. and how many they are.
+    pub count: usize,
+    // How many slots are filled by position.
+    pub next: usize,
 }
 
-// The same of a pair that is there, with the guess tried first. Called from one loop alone, so that the compiler makes it part of the loop.
-fn found_near(
-    params: &Parameters,
-    spec: &[u8],
-    cells: &[u64],
-    area: &[u8],
-    pair: usize,
-    near: usize,
-) -> Option<usize>
-    requires { OneEach spec.now params.now × (pair + 1 < length cells.now) }
-    ensures { result ≡ found_in spec.now params.now area.now cells.now pair }
-{
-    find_near(params, spec, near, area, cells[pair + 1])
-}
+impl Resolution {
+    // The value of a pair fills the slot that is found, or the pair joins the remainder.
+    #[tactic(auto, using(std::proofs::lemmas::List::set_past))]
+    pub fn enter(&mut self, found: Option<usize>, pair: usize)
+        requires { (pair < 2 ^ 32) × (self.old.count < 128) }
+        ensures sources { self.new.sources ≡ sources_after found pair self.old.sources }
+        ensures rest { self.new.rest ≡ rest_after found pair self.old.count self.old.rest }
+        ensures count { self.new.count ≡ count_after found self.old.count }
+        ensures next { self.new.next ≡ self.old.next }
+    {
+        match found {
+            Some(i) => {
+                if i < self.sources.len() {
+                    self.sources[i] = pair + 2;
+                }
+            }
+            None => {
+                self.rest[self.count] = pair;
+                self.count += 1;
+            }
+        }
+    }
 
-// The pair's value fills the slot that is found, or the pair joins the remainder. How many pairs the remainder then has.
-pub fn enter(
-    found: Option<usize>,
-    pair: usize,
-    sources: &mut [usize; 64],
-    rest: &mut [usize; NAMED],
-    count: usize,
-) -> usize
-    requires { (pair < 2 ^ 32) × (count < 128) × Below 64 found }
-    ensures after { result ≡ count_after found count }
-    ensures sources { sources.new ≡ sources_after found pair sources.old }
-    ensures rest { rest.new ≡ rest_after found pair count rest.old }
-{
-    match found {
-        Some(i) => {
-            sources[i] = pair + 2;
-            count
+    // Is the name at a pair one of those that are resolved? One that is found has filled its slot; one that is not is in the remainder.
+    fn repeats(&self, found: Option<usize>, call: &Call, pair: usize) -> bool
+        requires { Held call.now.area.now call.now.cells.now self.now.rest self.now.count }
+        ensures { result ≡ repeats_by found self.now.sources (held_names call.now.area.now call.now.cells.now self.now.rest self.now.count) (part_at call.now.area.now (pair_at call.now.cells.now pair).payload) }
+    {
+        match found {
+            Some(i) => self.is_named(i),
+            None => self.in_rest(call, part(call.area, pair_at(call.cells, pair).payload)),
         }
-        None => {
-            rest[count] = pair;
-            count + 1
-        }
+    }
+
+    // Does a name fill the slot at an index?
+    pub(crate) fn is_named(&self, i: usize) -> bool
+        ensures { result ≡ not (eqb (get_or self.now.sources i 0) 0) }
+    {
+        self.sources.get(i).is_some_and(|source| *source != 0)
+    }
+
+    // Does one of the pairs of the remainder have this name?
+    pub fn in_rest(&self, call: &Call, name: &[u8]) -> bool
+        requires { Held call.now.area.now call.now.cells.now self.now.rest self.now.count }
+        ensures { result ≡ among name.now (texts_of (held_names call.now.area.now call.now.cells.now self.now.rest self.now.count)) }
+    {
+        self.rest[..self.count].iter().any(|pair| {
+            same(name, part(call.area, pair_at(call.cells, *pair).payload))
+        })
     }
 }
 
-// Where to look first for the next name: behind the parameter that was found, or where it was looked for this time.
-pub fn behind(found: Option<usize>, near: usize) -> usize
-    requires { Below 64 found }
+// The parameter that the pair at a cell names. The one at `near` is tried first. It is made part of the loops over written names: as a call of
+// its own it took some fifty instructions a name more.
+#[inline(always)]
+#[tactic(auto, unfolding(crate::specs::Resolve::found_in))]
+pub fn found_at(list: &ParametersSpec, call: &Call, pair: usize, near: usize) -> Option<usize>
+    requires { OneEach list.now.area.now list.now.params }
+    ensures { result ≡ found_in list.now.area.now list.now.params call.now.area.now call.now.cells.now pair }
 {
+    find_near(list, near, call.area, pair_at(call.cells, pair).payload)
+}
+
+// Where to look first for the next name: behind the parameter that was found, or where it was looked for this time.
+pub fn behind(found: Option<usize>, near: usize) -> usize {
     match found {
-        Some(i) => i + 1,
+        Some(i) => i.saturating_add(1),
         None => near,
     }
 }
 
-// Is the name at a pair one of those that are resolved? One that is found has filled its slot; one that is not is in the remainder.
-fn repeats(
-    found: Option<usize>,
-    cells: &[u64],
-    area: &[u8],
-    pair: usize,
-    sources: &[usize; 64],
-    rest: &[usize; NAMED],
-    count: usize,
-) -> bool
-    requires { Held area.now cells.now rest.now count × Below 64 found }
-    ensures { result ≡ repeats_by found sources.now (held_names area.now cells.now rest.now count) (part_at area.now (pair_at cells.now pair).payload) }
-{
-    match found {
-        Some(i) => sources[i] != 0,
-        None => {
-            let key = pair_at(cells, pair);
-            in_rest(cells, area, rest, count, part(area, key.payload))
-        }
-    }
-}
-
-// The written names, up to the first that stands twice (13): how many pairs the remainder then has. `near` is where the first is looked for
-// first.
+// The written names, up to the first that stands twice (13). The first is looked for first at the slot behind those that are filled by position.
 pub fn resolve_names(
-    params: &Parameters,
-    spec: &[u8],
-    cells: &[u64],
-    area: &[u8],
+    list: &ParametersSpec,
+    call: &Call,
     from: usize,
     n: usize,
-    near: usize,
-    sources: &mut [usize; 64],
-    rest: &mut [usize; NAMED],
-) -> Result<usize, Question>
-    requires { NamesLent spec.now params.now cells.now area.now from n sources.old rest.old }
-    ensures { NamesResolved spec.now params.now cells.now area.now from n sources.old rest.old sources.new rest.new result }
+    resolved: &mut Resolution,
+) -> Result<(), Question>
+    requires { NamesLent list.now.area.now list.now call.now.cells.now call.now.area.now from n resolved.old.sources resolved.old.rest }
+    ensures names { NamesResolved list.now.area.now list.now call.now.cells.now call.now.area.now from n resolved.old.sources resolved.old.rest resolved.new.sources resolved.new.rest (with_count result resolved.new.count) }
+    ensures next { resolved.new.next ≡ resolved.old.next }
 {
-    let mut guess = near;
-    let mut count = 0;
+    let mut guess = resolved.next;
+    resolved.count = 0; // whatever it counted before
     for k in 0..n {
-        let pair = from + 4 * k;
-        let found = found_near(params, spec, cells, area, pair, guess);
-        if repeats(found, cells, area, pair, sources, rest, count) {
+        let pair = from + PAIR * k;
+        let found = found_at(list, call, pair, guess);
+        if resolved.repeats(found, call, pair) {
             return Err(Question::RepeatedName);
         }
         guess = behind(found, guess);
-        count = enter(found, pair, sources, rest, count);
+        resolved.enter(found, pair);
     }
-    Ok(count)
+    Ok(())
 }

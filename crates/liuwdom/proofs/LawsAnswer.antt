@@ -93,10 +93,10 @@ module _ (spec_cells spec bytes : List ℕ) (built : Result ParametersSpec Quest
       says (λ a. looked_up a (find (list_of spec_cells spec) bytes)) (sym (ap asked_of e) ∙ b.answer) t s
 
   pub lookup_found
-      : (l : ParametersSpec) (f : Option ℕ) → built ≡ Ok l → f ≡ find_in spec l.params bytes → told ≡ finding_answer (finding_of f)
+      : (l : ParametersSpec) (f : Option ℕ) → built ≡ Ok l → f ≡ find_in l.area.now l.params bytes → told ≡ finding_answer (finding_of f)
       → Says (lookup_answer spec_cells spec bytes) after r
   unfolding lookup_answer
   lookup_found l f e is t =
       says (λ a. looked_up a (find (list_of spec_cells spec) bytes)) (sym (ap asked_of e) ∙ b.answer)
-      (t ∙ ap finding_answer (ap finding_of is ∙ lookup_built spec_cells spec bytes built b l e))
+      (t ∙ ap finding_answer (ap finding_of (is ∙ ap (λ area. find_in area l.params bytes) (b.in_area l e)) ∙ lookup_built spec_cells spec bytes built b l e))
       s

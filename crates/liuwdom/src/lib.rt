@@ -29,6 +29,7 @@ use answer::{
 };
 use builder::build;
 use can_fill::can_fill_with_args;
+use cells::record::Record;
 use collector::collect::collect;
 use lookup::get_str;
 use prepared::{bind_prepared, prepare};
@@ -52,7 +53,15 @@ pub extern "C" fn liuwdom_collect(
     ensures answer { Says (outcome_answer (collection 64 64 spec_cells.now spec.now call_cells.now call.now board.old)) answer.new result }
     ensures board { board.new ≡ board_left (collection 64 64 spec_cells.now spec.now call_cells.now call.now board.old) board.old }
 {
-    collected(collect(spec_cells, spec, call_cells, call, board)).write(answer)
+    let spec = Record {
+        cells: spec_cells,
+        area: spec,
+    };
+    let call = Record {
+        cells: call_cells,
+        area: call,
+    };
+    collected(collect(&spec, &call, board)).write(answer)
 }
 
 // The list of a parameter record, laid out in lent cells for many calls.
@@ -66,7 +75,11 @@ pub extern "C" fn liuwdom_prepare(
     ensures answer { Says (preparing_answer spec_cells.now spec.now out.old) answer.new result }
     ensures output { out.new ≡ preparing_left spec_cells.now spec.now out.old }
 {
-    prepared(prepare(spec_cells, spec, out)).write(answer)
+    let spec = Record {
+        cells: spec_cells,
+        area: spec,
+    };
+    prepared(prepare(&spec, out)).write(answer)
 }
 
 // Collection of a call record against cells that are handed over as a prepared list: refused by 100 where they are none.
@@ -82,7 +95,15 @@ pub extern "C" fn liuwdom_bind_prepared(
     ensures answer { Says (outcome_answer (bound_prepared spec.now list.now call_cells.now call.now board.old)) answer.new result }
     ensures board { board.new ≡ board_left (bound_prepared spec.now list.now call_cells.now call.now board.old) board.old }
 {
-    prepared_bound(bind_prepared(list, spec, call_cells, call, board)).write(answer)
+    let list = Record {
+        cells: list,
+        area: spec,
+    };
+    let call = Record {
+        cells: call_cells,
+        area: call,
+    };
+    prepared_bound(bind_prepared(&list, &call, board)).write(answer)
 }
 
 // Whether a call fills a parameter list.
@@ -96,7 +117,15 @@ pub extern "C" fn liuwdom_can_fill(
 ) -> u64
     ensures { Says (filling_answer (fillable 64 64 spec_cells.now spec.now call_cells.now call.now)) answer.new result }
 {
-    filled(can_fill_with_args(spec_cells, spec, call_cells, call)).write(answer)
+    let spec = Record {
+        cells: spec_cells,
+        area: spec,
+    };
+    let call = Record {
+        cells: call_cells,
+        area: call,
+    };
+    filled(can_fill_with_args(&spec, &call)).write(answer)
 }
 
 // The index of the nameable parameter with these bytes.
@@ -109,8 +138,12 @@ pub extern "C" fn liuwdom_lookup(
 ) -> u64
     ensures { Says (lookup_answer spec_cells.now spec.now name.now) answer.new result }
 {
-    let told = match build(spec_cells, spec) {
-        Ok(list) => found(get_str(&list, spec, name)),
+    let spec = Record {
+        cells: spec_cells,
+        area: spec,
+    };
+    let told = match build(&spec) {
+        Ok(list) => found(get_str(&list, name)),
         Err(question) => refused(question),
     };
     told.write(answer)
@@ -127,7 +160,8 @@ pub extern "C" fn liuwdom_names_map(
     ensures answer { Says (access_answer (rules.names_map 64 64 cells.now call.now out.old)) answer.new result }
     ensures output { out.new ≡ rules.left_by (rules.names_map 64 64 cells.now call.now out.old) (rules.names_map_cells cells.now call.now) out.old }
 {
-    accessed(names_map(cells, call, out)).write(answer)
+    let record = Record { cells, area: call };
+    accessed(names_map(&record, out)).write(answer)
 }
 
 // P, as values.
@@ -141,7 +175,8 @@ pub extern "C" fn liuwdom_positions(
     ensures answer { Says (access_answer (rules.positions 64 64 cells.now call.now out.old)) answer.new result }
     ensures output { out.new ≡ rules.left_by (rules.positions 64 64 cells.now call.now out.old) (rules.positions_cells cells.now call.now) out.old }
 {
-    accessed(positions(cells, call, out)).write(answer)
+    let record = Record { cells, area: call };
+    accessed(positions(&record, out)).write(answer)
 }
 
 // How many arguments there are.
@@ -149,7 +184,8 @@ pub extern "C" fn liuwdom_positions(
 pub extern "C" fn liuwdom_len(cells: &[u64], call: &[u8], answer: &mut [u64; 8]) -> u64
     ensures { Says (access_answer (rules.len 64 cells.now call.now)) answer.new result }
 {
-    accessed(len(cells, call)).write(answer)
+    let record = Record { cells, area: call };
+    accessed(len(&record)).write(answer)
 }
 
 // Whether no name is given.
@@ -157,7 +193,8 @@ pub extern "C" fn liuwdom_len(cells: &[u64], call: &[u8], answer: &mut [u64; 8])
 pub extern "C" fn liuwdom_no_named_args(cells: &[u64], call: &[u8], answer: &mut [u64; 8]) -> u64
     ensures { Says (access_answer (rules.no_named_args 64 cells.now call.now)) answer.new result }
 {
-    accessed(no_named_args(cells, call)).write(answer)
+    let record = Record { cells, area: call };
+    accessed(no_named_args(&record)).write(answer)
 }
 
 // From `required` to `required` + `more` positionals.
@@ -173,7 +210,8 @@ pub extern "C" fn liuwdom_optional(
     ensures answer { Says (access_answer (rules.optional 64 64 required more cells.now call.now out.old)) answer.new result }
     ensures output { out.new ≡ rules.left_by (rules.optional 64 64 required more cells.now call.now out.old) (rules.optional_cells required more cells.now call.now) out.old }
 {
-    accessed(optional(cells, call, required, more, out)).write(answer)
+    let record = Record { cells, area: call };
+    accessed(optional(&record, required, more, out)).write(answer)
 }
 
 // Just `required` positionals.
@@ -188,7 +226,8 @@ pub extern "C" fn liuwdom_positional(
     ensures answer { Says (access_answer (rules.optional 64 64 required 0 cells.now call.now out.old)) answer.new result }
     ensures output { out.new ≡ rules.left_by (rules.optional 64 64 required 0 cells.now call.now out.old) (rules.optional_cells required 0 cells.now call.now) out.old }
 {
-    accessed(positional(cells, call, required, out)).write(answer)
+    let record = Record { cells, area: call };
+    accessed(positional(&record, required, out)).write(answer)
 }
 
 // The printed list.
@@ -202,7 +241,11 @@ pub extern "C" fn liuwdom_parameters_str(
     ensures answer { Says (access_answer (list.parameters_str 64 spec_cells.now spec.now out.old)) answer.new result }
     ensures output { out.new ≡ rules.left_by (list.parameters_str 64 spec_cells.now spec.now out.old) (list.printed (list_of spec_cells.now spec.now)) out.old }
 {
-    printed(parameters_str(spec_cells, spec, out)).write(answer)
+    let spec = Record {
+        cells: spec_cells,
+        area: spec,
+    };
+    printed(parameters_str(&spec, out)).write(answer)
 }
 
 // Two sheets to the text that tells how the call binds.

@@ -33,11 +33,6 @@ module _ (test : ℕ → Bool) (i n : ℕ) where
       let m : n - i ≡ suc (n - (i + 1)) = omega arith in
       rw (m, e, add-one)
 
-  pub first_at_end : n ≤ i → first_at test i (n - i) ≡ None
-  first_at_end h =
-      let m : n - i ≡ 0 = omega arith in
-      rw m
-
 -- ---- a run of indices in two parts
 
 -- what is found is an index of the run, and passes

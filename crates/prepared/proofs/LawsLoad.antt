@@ -23,7 +23,7 @@ use Rattle.builder.specs.Params.{style_for, kind_for, parameter_of, parameter_at
 use Rattle.builder.specs.Spec.{index_of}
 use Rattle.builder.specs.Build.{IsList}
 use Rattle.builder.specs.declared.params.Parameters.{Parameters}
-use Rattle.builder.specs.declared.spec.DefParamIndices.{DefParamIndices}
+use Rattle.builder.specs.declared.spec.ParametersSpec.{ParametersSpec}
 use Rattle.builder.proofs.LawsCodes.{code_3, code_4, code_0, plain_code, plain_above}
 use Rattle.builder.proofs.LawsParams.{plain_any}
 use Rattle.prepared.specs.Prepared.{Row, parameter_of_row, list_in}
@@ -304,13 +304,13 @@ module _ (cells : List ℕ) (p : Parameters) (l : Loaded cells p.len p.codes p.s
   loaded_at area j h = rw (row_at_cells, l.code.held j h, l.style.held j h, l.name.held j h, l.kind.held j h, l.payload.held j h)
 
   pub loaded_list
-      : (area : List ℕ) (d : DefParamIndices) → p.len ≡ get_or cells 0 0 → p.len ≤ 64 → IndicesOf (listed (param_at area cells) 0 p.len) d
-      → IsList area (record { params = p; indices = d }) (list_in area cells)
+      : (area : List ℕ) (s : ParametersSpec) → s.params ≡ p → p.len ≡ get_or cells 0 0 → p.len ≤ 64 → IndicesOf (listed (param_at area cells) 0 p.len) s.indices
+      → IsList area s (list_in area cells)
   unfolding parameters_in
-  loaded_list area d e few x =
+  loaded_list area s is e few x =
       record {
-        room = few;
-        parameters = Listed-same _ _ 0 p.len (λ j a u. loaded_at area j (omega arith)) ∙ same;
+        room = rw is few;
+        parameters = ap (parameters_in area) is ∙ Listed-same _ _ 0 p.len (λ j a u. loaded_at area j (omega arith)) ∙ same;
         positional_only = x.positional_only ∙ ap positional_only_count same;
         positional = x.positional ∙ ap positional_count same;
         args = x.args ∙ ap args_index same;

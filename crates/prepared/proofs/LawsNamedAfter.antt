@@ -11,7 +11,7 @@ use lib.ListN.{length, drop, get_or, length-drop}
 use lib.Seq.{length-take-le}
 use Rattle.rules.specs.Text.{start_of, size_of, bytes_at, inside, same_bytes}
 use Rattle.rules.specs.Value.{call_text, well_formed_key}
-use Rattle.rules.proofs.LawsText.{same_bytes_eq, eq_same_bytes}
+use Rattle.rules.proofs.LawsText.{eq_same_bytes}
 use Rattle.cells.specs.Text.{part_at, key_of}
 use Rattle.cells.specs.Record.{pair_at}
 use Rattle.cells.proofs.LawsRecord.{pair_at_is}
@@ -45,8 +45,11 @@ module _ (a : List ℕ) (x : ℕ) (b : List ℕ) (y : ℕ) (one : inside a x ≡
       key_from_same (bytes_at a x) (bytes_at b y) (size_inside a x one ∙ sized ∙ sym (size_inside b y other)) (bytes_at_lem a x p) (bytes_at_lem b y q)
       (sym (key_all (bytes_at a x) (bytes_few a x few)) ∙ e ∙ key_all (bytes_at b y) (bytes_few b y (rw (← sized) few)))
 
-  part_same : same_bytes (part_at a x) (part_at b y) ≡ true → bytes_at a x ≡ bytes_at b y
-  part_same e = sym (part_inside_lem a x one) ∙ same_bytes_eq (part_at a x) (part_at b y) e ∙ part_inside_lem b y other
+  pub short_same : Bytes a → Bytes b → x % 256 ≡ y % 256 → x % 256 ≤ 8 → key_of (bytes_at a x) ≡ key_of (bytes_at b y) → true ≡ same_bytes (bytes_at a x) (bytes_at b y)
+  short_same p q sized few e = sym (eq_same_bytes (bytes_at a x) (bytes_at b y) (key_same p q sized few e))
+
+  pub part_same : same_bytes (part_at a x) (part_at b y) ≡ same_bytes (bytes_at a x) (bytes_at b y)
+  part_same = rw (part_inside_lem a x one, part_inside_lem b y other)
 
 -- ---- the last of some rows
 
@@ -70,36 +73,28 @@ module _
     (spec list cells area : List ℕ) (pair row : ℕ) (keyed : Keyed spec list (row + 1)) (formed : well_formed_key area (pair_at cells pair) ≡ true)
     (text : get_or cells pair 0 ≡ 6) (may : may_be_named (get_or list (2 + 6 * row) 0) (get_or list (2 + 6 * row + 1) 0) ≡ true)
   where
-    key_inside : inside area (get_or cells (pair + 1) 0) ≡ true
+    pub key_inside : inside area (get_or cells (pair + 1) 0) ≡ true
     unfolding well_formed_key call_text
     key_inside = text_inside 0 area (get_or cells (pair + 1) 0) (rw (pair_at_is cells pair, text) at formed)
 
-    row_inside : inside spec (get_or list (2 + 6 * row + 2) 0) ≡ true
+    pub row_inside : inside spec (get_or list (2 + 6 * row + 2) 0) ≡ true
     row_inside = slot_inside spec list row keyed (may_be_named_cells list row ∙ may)
 
-    by_bytes : bytes_at area (get_or cells (pair + 1) 0) ≡ bytes_at spec (get_or list (2 + 6 * row + 2) 0) → NamedAfter spec list cells area pair row
+    pub keys_same
+        : {key : ℕ} → key ≡ key_of (bytes_at area (get_or cells (pair + 1) 0)) → get_or list (2 + 6 * row + 5) 0 ≡ key
+        → key_of (bytes_at area (get_or cells (pair + 1) 0)) ≡ key_of (bytes_at spec (get_or list (2 + 6 * row + 2) 0))
+    keys_same {key} ek e = sym ek ∙ sym e ∙ sym (key_cell list row) ∙ keyed.keys row (omega arith) ∙ ap (λ n. key_of (bytes_at spec n)) (name_cell list row)
+
+    pub after_row
+        : {same : Bool} → same ≡ same_bytes (bytes_at area (get_or cells (pair + 1) 0)) (bytes_at spec (get_or list (2 + 6 * row + 2) 0)) → same ≡ true
+        → NamedAfter spec list cells area pair row
     unfolding param_at call_text
-    by_bytes e =
+    after_row {same} es t =
         record {
           text = rw (pair_at_is cells pair) text;
           named =
               sym
               (names_bytes spec (bytes_at area (pair_at cells pair).payload) (row_at list row) {a = true} (sym (may_be_named_cells list row ∙ may)) refl
               {x = bytes_at spec (get_or list (2 + 6 * row + 2) 0)} (ap (bytes_at spec) (sym (name_cell list row)))
-              {b = true} (sym (eq_same_bytes (bytes_at area (pair_at cells pair).payload) (bytes_at spec (get_or list (2 + 6 * row + 2) 0)) (rw (pair_at_is cells pair) e))));
+              {b = true} (rw (pair_at_is cells pair) (sym t ∙ es)));
         }
-
-    -- a short name is known by its key
-    pub after_short
-        : Bytes area → Bytes spec → get_or cells (pair + 1) 0 % 256 ≡ get_or list (2 + 6 * row + 2) 0 % 256 → get_or cells (pair + 1) 0 % 256 ≤ 8
-        → {key : ℕ} → key ≡ key_of (bytes_at area (get_or cells (pair + 1) 0)) → get_or list (2 + 6 * row + 5) 0 ≡ key → NamedAfter spec list cells area pair row
-    after_short p q sized few {key} ek e =
-        by_bytes
-        (key_same area (get_or cells (pair + 1) 0) spec (get_or list (2 + 6 * row + 2) 0) key_inside row_inside p q sized few
-        (sym ek ∙ sym e ∙ sym (key_cell list row) ∙ keyed.keys row (omega arith) ∙ ap (λ n. key_of (bytes_at spec n)) (name_cell list row)))
-
-    -- a longer one by all its bytes
-    pub after_long
-        : {same : Bool} → same ≡ same_bytes (part_at area (get_or cells (pair + 1) 0)) (part_at spec (get_or list (2 + 6 * row + 2) 0)) → same ≡ true
-        → NamedAfter spec list cells area pair row
-    after_long es t = by_bytes (part_same area (get_or cells (pair + 1) 0) spec (get_or list (2 + 6 * row + 2) 0) key_inside row_inside (sym es ∙ t))

@@ -27,14 +27,14 @@ unfoldable pub asked : List ℕ → List ℕ → ℕ → Bool
 asked area cells n = rows_right area 0 (listed (row_at cells) 0 n) && names_apart [] (listed (param_at area cells) 0 n)
 
 -- before row i: both its halves are the answers for the rows from it on, and of the rows before it each is right, with its slot marked
-pub record SoFar (area cells : List ℕ) (n : ℕ) (used : List ℕ) (least i : ℕ) : Type 0 where
+pub record SoFar (area cells : List ℕ) (n : ℕ) (used : List Bool) (least i : ℕ) : Type 0 where
   pub rows : rows_right area 0 (listed (row_at cells) 0 n) ≡ rows_right area least (listed (row_at cells) i (n - i))
   pub apart : names_apart [] (listed (param_at area cells) 0 n) ≡ names_apart (listed (param_at area cells) 0 i) (listed (param_at area cells) i (n - i))
   pub right : (j : ℕ) → j < i → row_right area (row_at cells j) ≡ true
   pub marks : Marked area cells used i
 
 -- row i is r, which is right and not too early
-pub record Right (area cells : List ℕ) (n : ℕ) (used : List ℕ) (least i : ℕ) (r : Row) : Type 0 where
+pub record Right (area cells : List ℕ) (n : ℕ) (used : List Bool) (least i : ℕ) (r : Row) : Type 0 where
   pub so_far : SoFar area cells n used least i
   pub there : i < n
   pub row : r ≡ row_at cells i
@@ -50,7 +50,7 @@ module _ (area cells : List ℕ) (n : ℕ) where
   unfolding asked
   no_names e = sym (and_no_right (rows_right area 0 (listed (row_at cells) 0 n)) (names_apart [] (listed (param_at area cells) 0 n)) (sym e))
 
-module _ (area cells : List ℕ) (n : ℕ) (used : List ℕ) (least i : ℕ) (s : SoFar area cells n used least i) where
+module _ (area cells : List ℕ) (n : ℕ) (used : List Bool) (least i : ℕ) (s : SoFar area cells n used least i) where
   module _ (h : i < n) {r : Row} (er : r ≡ row_at cells i) where
     pub too_early : r.style < least → false ≡ asked area cells n
     too_early e = no_rows area cells n (rows_style area cells n i least s.rows h er e)
@@ -64,7 +64,7 @@ module _ (area cells : List ℕ) (n : ℕ) (used : List ℕ) (least i : ℕ) (s 
 
 -- ---- behind the questions of row i by itself
 
-module _ {area cells : List ℕ} {n : ℕ} {used : List ℕ} {least i : ℕ} {r : Row} (now : Right area cells n used least i r) where
+module _ {area cells : List ℕ} {n : ℕ} {used : List Bool} {least i : ℕ} {r : Row} (now : Right area cells n used least i r) where
   -- all rows up to this one are right
   each_here : (j : ℕ) → j < i + 1 → row_right area (row_at cells j) ≡ true
   each_here j u = split (dec_le (suc j) i)
@@ -88,7 +88,7 @@ module _ {area cells : List ℕ} {n : ℕ} {used : List ℕ} {least i : ℕ} {r 
 
   -- on to the next row
   on
-      : {marked : List ℕ} {after : ℕ}
+      : {marked : List Bool} {after : ℕ}
       → ((v : Value) → stands r.step.code r.style v ≡ true → after ≡ rank (next_style (style_for r.style) (act_of r.step.code v)))
       → names_apart [] (listed (param_at area cells) 0 n) ≡ names_apart (listed (param_at area cells) 0 (i + 1)) (listed (param_at area cells) (i + 1) (n - (i + 1)))
       → Marked area cells marked (i + 1)
@@ -117,7 +117,7 @@ module _ {area cells : List ℕ} {n : ℕ} {used : List ℕ} {least i : ℕ} {r 
     twice t eo k = no_names area cells n (apart_twice (param_at area cells) n i now.so_far.apart now.there (nameable_here ∙ t) (sym eo ∙ k))
 
     pub on_unnamed
-        : {marked : List ℕ} {after : ℕ}
+        : {marked : List Bool} {after : ℕ}
         → ((v : Value) → stands r.step.code r.style v ≡ true → after ≡ rank (next_style (style_for r.style) (act_of r.step.code v)))
         → named ≡ false
         → marked ≡ used
@@ -127,12 +127,12 @@ module _ {area cells : List ℕ} {n : ℕ} {used : List ℕ} {least i : ℕ} {r 
         (slot_kept area cells used i now.so_far.marks em (nameable_here ∙ f))
 
   module _
-      {marked : List ℕ}
+      {marked : List Bool}
       {after : ℕ}
       (ea : (v : Value) → stands r.step.code r.style v ≡ true → after ≡ rank (next_style (style_for r.style) (act_of r.step.code v)))
       {slot : ℕ}
       (es : slot ≡ last_key (bytes_at area r.step.name) % 929)
-      (em : marked ≡ set used slot 1)
+      (em : marked ≡ set used slot true)
     where
       pub on_unknown : {old : Bool} → old ≡ known (listed (param_at area cells) 0 i) (bytes_at area (row_at cells i).step.name) → old ≡ false → SoFar area cells n marked after (i + 1)
       unfolding param_at parameter_of_row parameter_of text_in
@@ -140,5 +140,5 @@ module _ {area cells : List ℕ} {n : ℕ} {used : List ℕ} {least i : ℕ} {r 
           on ea (apart_new (param_at area cells) n i now.so_far.apart now.there (sym eo ∙ k))
           (slot_marked area cells used i now.so_far.marks (slot_here es) em)
 
-      pub on_new : (get_or used slot 0 ≡ 1 → ⊥) → SoFar area cells n marked after (i + 1)
+      pub on_new : get_or used slot false ≡ false → SoFar area cells n marked after (i + 1)
       on_new new = on_unknown refl (slot_new area cells used i now.so_far.marks (slot_here es) new)

@@ -51,12 +51,12 @@ named_slot area cells bytes j t =
 -- ---- marks
 
 -- that of each nameable row before row i is marked
-pub record Marked (area cells used : List ℕ) (i : ℕ) : Type 0 where
+pub record Marked (area cells : List ℕ) (used : List Bool) (i : ℕ) : Type 0 where
   pub size : length used ≡ 929
-  pub marked : (j : ℕ) → j < i → nameable (param_at area cells j) ≡ true → get_or used (slot_at area cells j) 0 ≡ 1
+  pub marked : (j : ℕ) → j < i → nameable (param_at area cells j) ≡ true → get_or used (slot_at area cells j) false ≡ true
 
-module _ (area cells used : List ℕ) (i : ℕ) (m : Marked area cells used i) where
-  pub slot_new : {s : ℕ} → s ≡ slot_at area cells i → (get_or used s 0 ≡ 1 → ⊥) → known (listed (param_at area cells) 0 i) (bytes_at area (row_at cells i).step.name) ≡ false
+module _ (area cells : List ℕ) (used : List Bool) (i : ℕ) (m : Marked area cells used i) where
+  pub slot_new : {s : ℕ} → s ≡ slot_at area cells i → get_or used s false ≡ false → known (listed (param_at area cells) 0 i) (bytes_at area (row_at cells i).step.name) ≡ false
   unfolding known slot_at
   slot_new {s} es new = any_none (names bytes) (param_at area cells) 0 i (λ j l u. go j (omega arith) (nameable (param_at area cells j)) refl (names bytes (param_at area cells j)) refl)
     where
@@ -64,35 +64,35 @@ module _ (area cells used : List ℕ) (i : ℕ) (m : Marked area cells used i) w
       bytes = bytes_at area (row_at cells i).step.name
 
       go : (j : ℕ) → j < i → (b : Bool) → nameable (param_at area cells j) ≡ b → (d : Bool) → names bytes (param_at area cells j) ≡ d → names bytes (param_at area cells j) ≡ false
-      go j u true t true e = absurd (new (ap (λ n. get_or used n 0) (es ∙ named_slot area cells bytes j e) ∙ m.marked j u t))
+      go j u true t true e = absurd (never (sym new ∙ ap (λ n. get_or used n false) (es ∙ named_slot area cells bytes j e) ∙ m.marked j u t))
       go j u true t false e = e
       go j u false t d e = unnamed bytes (param_at area cells j) t
 
   -- row i's slot is marked with the others
-  pub slot_marked : {next : List ℕ} {s : ℕ} → s ≡ slot_at area cells i → next ≡ set used s 1 → Marked area cells next (i + 1)
-  slot_marked {next} {s} es stored = record { size = ap length en ∙ length-set used (slot_at area cells i) 1 ∙ m.size; marked = λ j u t. ap (λ l. get_or l (slot_at area cells j) 0) en ∙ held j u t (dec_le (suc j) i) }
+  pub slot_marked : {next : List Bool} {s : ℕ} → s ≡ slot_at area cells i → next ≡ set used s true → Marked area cells next (i + 1)
+  slot_marked {next} {s} es stored = record { size = ap length en ∙ length-set used (slot_at area cells i) true ∙ m.size; marked = λ j u t. ap (λ l. get_or l (slot_at area cells j) false) en ∙ held j u t (dec_le (suc j) i) }
     where
-      en : next ≡ set used (slot_at area cells i) 1
-      en = stored ∙ ap (λ n. set used n 1) es
+      en : next ≡ set used (slot_at area cells i) true
+      en = stored ∙ ap (λ n. set used n true) es
 
-      here : get_or (set used (slot_at area cells i) 1) (slot_at area cells i) 0 ≡ 1
-      here = get_or-set_same used (slot_at area cells i) 1 0 (omega (arith, m.size, slot_below area cells i))
+      here : get_or (set used (slot_at area cells i) true) (slot_at area cells i) false ≡ true
+      here = get_or-set_same used (slot_at area cells i) true false (omega (arith, m.size, slot_below area cells i))
 
-      before : (s : ℕ) → get_or used s 0 ≡ 1 → (b : Bool) → eqb s (slot_at area cells i) ≡ b → get_or (set used (slot_at area cells i) 1) s 0 ≡ 1
-      before s e true t = ap (λ k. get_or (set used (slot_at area cells i) 1) k 0) (eqb-true s (slot_at area cells i) t) ∙ here
-      before s e false t = get_or-set_other used (slot_at area cells i) s 1 0 (eqb-false s (slot_at area cells i) t) ∙ e
+      before : (s : ℕ) → get_or used s false ≡ true → (b : Bool) → eqb s (slot_at area cells i) ≡ b → get_or (set used (slot_at area cells i) true) s false ≡ true
+      before s e true t = ap (λ k. get_or (set used (slot_at area cells i) true) k false) (eqb-true s (slot_at area cells i) t) ∙ here
+      before s e false t = get_or-set_other used (slot_at area cells i) s true false (eqb-false s (slot_at area cells i) t) ∙ e
 
-      held : (j : ℕ) → j < i + 1 → nameable (param_at area cells j) ≡ true → Dec (suc j ≤ i) → get_or (set used (slot_at area cells i) 1) (slot_at area cells j) 0 ≡ 1
+      held : (j : ℕ) → j < i + 1 → nameable (param_at area cells j) ≡ true → Dec (suc j ≤ i) → get_or (set used (slot_at area cells i) true) (slot_at area cells j) false ≡ true
       held j u t (yes l) = before (slot_at area cells j) (m.marked j l t) (eqb (slot_at area cells j) (slot_at area cells i)) refl
       held j u t (no l) = let e : i ≡ j = omega arith in rw (← e) here
 
   -- a row that is not nameable has none
-  pub slot_kept : {next : List ℕ} → next ≡ used → nameable (param_at area cells i) ≡ false → Marked area cells next (i + 1)
-  slot_kept {next} en f = record { size = ap length en ∙ m.size; marked = λ j u t. ap (λ l. get_or l (slot_at area cells j) 0) en ∙ held j u t (dec_le (suc j) i) }
+  pub slot_kept : {next : List Bool} → next ≡ used → nameable (param_at area cells i) ≡ false → Marked area cells next (i + 1)
+  slot_kept {next} en f = record { size = ap length en ∙ m.size; marked = λ j u t. ap (λ l. get_or l (slot_at area cells j) false) en ∙ held j u t (dec_le (suc j) i) }
     where
-      last : (j : ℕ) → i ≡ j → nameable (param_at area cells j) ≡ true → get_or used (slot_at area cells j) 0 ≡ 1
+      last : (j : ℕ) → i ≡ j → nameable (param_at area cells j) ≡ true → get_or used (slot_at area cells j) false ≡ true
       last j e t = let z : false ≡ true = sym f ∙ ap (λ k. nameable (param_at area cells k)) e ∙ t in absurd (never z)
 
-      held : (j : ℕ) → j < i + 1 → nameable (param_at area cells j) ≡ true → Dec (suc j ≤ i) → get_or used (slot_at area cells j) 0 ≡ 1
+      held : (j : ℕ) → j < i + 1 → nameable (param_at area cells j) ≡ true → Dec (suc j ≤ i) → get_or used (slot_at area cells j) false ≡ true
       held j u t (yes l) = m.marked j l t
       held j u t (no l) = last j (omega arith) t

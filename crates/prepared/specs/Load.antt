@@ -9,6 +9,7 @@ use Rattle.cells.specs.Listed.{listed}
 use Rattle.builder.specs.Spec.{index_of}
 use Rattle.builder.specs.Build.{IsList}
 use Rattle.builder.specs.declared.params.Parameters.{Parameters}
+use Rattle.builder.specs.declared.spec.ParametersSpec.{ParametersSpec}
 use Rattle.prepared.specs.Prepared.{list_in}
 use Rattle.prepared.specs.Rows.{param_at}
 use Rattle.builder.specs.declared.spec.DefParamIndices.{DefParamIndices}
@@ -37,4 +38,4 @@ pub record IndicesOf (qs : List Parameter) (d : DefParamIndices) : Type 0 where
 -- columns that hold the rows: with counts and indices that are those of the rows they are the list that the cells spell
 pub record IsLoaded (cells : List ℕ) (p : Parameters) : Type 0 where
   pub len : p.len ≡ get_or cells 0 0
-  pub list : (area : List ℕ) (d : DefParamIndices) → IndicesOf (listed (param_at area cells) 0 (get_or cells 0 0)) d → IsList area (record { params = p; indices = d }) (list_in area cells)
+  pub list : (area : List ℕ) (l : ParametersSpec) → l.params ≡ p → IndicesOf (listed (param_at area cells) 0 (get_or cells 0 0)) l.indices → IsList area l (list_in area cells)

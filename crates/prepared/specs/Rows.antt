@@ -3,19 +3,14 @@ use Rattle.std.specs.Prelude.{◌≡◌, Bool, true, ◌&&◌, List, ℕ, ◌+�
 use Rattle.rules.specs.Text.{bytes_at, inside}
 use Rattle.rules.specs.Value.{Value}
 use Rattle.rules.specs.Parameters.{Parameter, act_of, may_stand}
-use Rattle.builder.specs.Params.{style_for, may_be_named}
+use Rattle.builder.specs.Params.{style_for, step_of, may_be_named}
 use Rattle.cells.specs.Text.{key_of, last_key}
 use Rattle.prepared.specs.Prepared.{Row, read_row, parameter_of_row, adds_one}
 use Rattle.prepared.specs.declared.row.Row.{Row as CodeRow}
 
 -- a row of the code
 unfoldable pub row_in : CodeRow → Row
-row_in r =
-    record {
-      step = record { code = r.code; name = r.name; default = record { kind = r.default_kind; payload = r.default_payload } };
-      style = r.style;
-      key = r.key;
-    }
+row_in r = record { step = step_of r.step; style = r.style; key = r.key }
 
 -- row i stands behind the two cells of the front and i rows
 unfoldable pub row_at : List ℕ → ℕ → Row

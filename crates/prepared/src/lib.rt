@@ -3,7 +3,9 @@
 #![tactic(auto)]
 
 ghost use Rattle.std.specs.Prelude.{◌≡◌};
+ghost use Rattle.rules.specs.Answer.{fine};
 ghost use Rattle.calls.specs.Head.{head_of};
+ghost use Rattle.calls.specs.Keys.{ask_keys};
 ghost use Rattle.answers.specs.declared.answer.Refusal.TheVariants.{Record};
 ghost use Rattle.collector.specs.Collect.{Ends, bound_to};
 ghost use Rattle.prepared.specs.Prepared.{list_in, bound_prepared};
@@ -16,10 +18,10 @@ use answers::answer::{Counts, Refusal};
 use builder::build;
 use builder::params::Parameters;
 use builder::spec::ParametersSpec;
-use calls::head::{Head, read_head};
+use calls::head::Call;
 use calls::{ask_entries, ask_form};
 use cells::question::Question;
-use cells::record::cell;
+use cells::record::{Record, cell};
 use check::is_prepared;
 use collector::collect::collect_open;
 use in_order::{collect_in_order, in_order};
@@ -80,58 +82,54 @@ impl From<Question> for PreparedRefusal {
 
 // The list of a parameter record, of any cells and bytes, laid out from cell 0 on: how many cells are written. Nothing is written unless all
 // of it is.
-pub fn prepare(spec_cells: &[u64], spec: &[u8], out: &mut [u64]) -> Result<usize, Unprepared>
-    ensures { Preparing spec_cells.now spec.now out.old out.new result }
+pub fn prepare(spec: &Record, out: &mut [u64]) -> Result<usize, Unprepared>
+    ensures { Preparing spec.now.cells.now spec.now.area.now out.old out.new result }
 {
-    let list = build(spec_cells, spec)?;
+    let list = build(spec)?;
     if out.len() < PREPARED {
         return Err(Unprepared::NoRoom);
     }
-    write_list(&list.params, cell(spec_cells, 0), spec, out);
+    write_list(&list, cell(spec.cells, 0), out);
     Ok(FRONT + ROW * list.params.len)
 }
 
-// A call, of any cells and bytes, against cells that are handed over as a prepared list. One whose arguments stand in the list's order is bound
-// against the rows where they lie.
+// A call, of any cells and bytes, against cells that are handed over as a prepared list, with the area that its texts lie in. One whose
+// arguments stand in the list's order is bound against the rows where they lie.
 pub fn bind_prepared(
-    prepared: &[u64],
-    spec: &[u8],
-    cells: &[u64],
-    area: &[u8],
+    prepared: &Record,
+    record: &Record,
     board: &mut [u64],
 ) -> Result<Counts, PreparedRefusal>
-    ensures { EndsBound (bound_prepared spec.now prepared.now cells.now area.now board.old) board.old board.new result }
+    ensures { EndsBound (bound_prepared prepared.now.area.now prepared.now.cells.now record.now.cells.now record.now.area.now board.old) board.old board.new result }
 {
-    if !is_prepared(prepared, spec) {
+    if !is_prepared(prepared) {
         return Err(PreparedRefusal::NotPrepared);
     }
-    ask_form(cells, area)?;
-    let n = cell(prepared, 0) as usize;
-    let h = read_head(cells);
-    if in_order(prepared, spec, cells, area, h, n) {
-        return Ok(collect_in_order(cells, h, n, board)?);
+    ask_form(record)?;
+    let n = cell(prepared.cells, 0) as usize;
+    let call = Call::new(record);
+    if in_order(prepared, &call, n) {
+        return Ok(collect_in_order(&call, n, board)?);
     }
-    Ok(collect_loaded(prepared, spec, cells, area, h, n, board)?)
+    ask_entries(record)?;
+    Ok(collect_loaded(prepared, &call, n, board)?)
 }
 
-// Any other call that has passed 9 to 11: 12, and then the rows are loaded for 13 to 24.
+// Any other call that has passed 9 to 12: the rows are loaded for 13 to 24.
 fn collect_loaded(
-    prepared: &[u64],
-    spec: &[u8],
-    cells: &[u64],
-    area: &[u8],
-    h: Head,
+    prepared: &Record,
+    call: &Call,
     n: usize,
     board: &mut [u64],
 ) -> Result<Counts, Refusal>
-    requires { OrderReady spec.now prepared.now cells.now area.now (head_of h) n }
-    ensures { Ends (bound_to (list_in spec.now prepared.now) cells.now area.now board.old) board.old board.new result }
+    requires { OrderReady prepared.now.area.now prepared.now.cells.now call.now.cells.now call.now.area.now (head_of call.now.head) n × (ask_keys 64 call.now.cells.now call.now.area.now ≡ fine) }
+    ensures { Ends (bound_to (list_in prepared.now.area.now prepared.now.cells.now) call.now.cells.now call.now.area.now board.old) board.old board.new result }
 {
-    ask_entries(cells, area)?;
     let mut list = ParametersSpec {
         params: Parameters::new(),
-        indices: indices_in(prepared, n),
+        indices: indices_in(prepared.cells, n),
+        area: prepared.area,
     };
-    load(prepared, &mut list.params);
-    collect_open(&list, spec, cells, area, h, board)
+    load(prepared.cells, &mut list.params);
+    collect_open(&list, call, board)
 }

@@ -3,12 +3,13 @@ ghost use Rattle.std.specs.Prelude.{◌≡◌, true, ◌&&◌, ◌+◌, ◌*◌,
 ghost use Rattle.rules.specs.Text.{bytes_at, inside, is_text};
 ghost use Rattle.rules.specs.Value.{Value};
 ghost use Rattle.rules.specs.Parameters.{act_of, next_style, rank};
-ghost use Rattle.builder.specs.Params.{step_of, style_for};
+ghost use Rattle.builder.specs.Params.{style_for};
 ghost use Rattle.cells.specs.Text.{key_of, last_key};
 ghost use Rattle.prepared.specs.Prepared.{row_right};
 ghost use Rattle.prepared.specs.Rows.{row_in, row_at, stands};
 
 use builder::params::{Step, bytes_at};
+use calls::slot::SLOTS;
 use cells::key::{first_key, last_key, short_key};
 use cells::text;
 
@@ -28,17 +29,11 @@ pub const DEFAULT_PAYLOAD: usize = 4;
 
 pub const KEY: usize = 5;
 
-// How many slots there are for names, as in question 13.
-pub const SLOTS: usize = 929;
-
-// The cells of a row: a step's, the number of the style under which the parameter was added, and the key of its name.
-#[derive(Clone, Copy)]
+// What the cells of a row hold: the step that adds the parameter, the number of the style under which it was added, and the key of its name.
+#[derive(Clone, Copy, Debug, PartialEq, Eq)]
 pub struct Row {
-    pub code: u64,
+    pub step: Step,
     pub style: u64,
-    pub name: u64,
-    pub default_kind: u64,
-    pub default_payload: u64,
     pub key: u64,
 }
 
@@ -49,11 +44,13 @@ pub(crate) fn row_at(cells: &[u64], i: usize) -> Row
 {
     let at = FRONT + ROW * i;
     Row {
-        code: cells[at],
+        step: Step {
+            code: cells[at],
+            name: cells[at + NAME],
+            default_kind: cells[at + DEFAULT_KIND],
+            default_payload: cells[at + DEFAULT_PAYLOAD],
+        },
         style: cells[at + STYLE],
-        name: cells[at + NAME],
-        default_kind: cells[at + DEFAULT_KIND],
-        default_payload: cells[at + DEFAULT_PAYLOAD],
         key: cells[at + KEY],
     }
 }
@@ -101,43 +98,29 @@ pub(crate) fn style_after(code: u64, style: u64) -> u64
 }
 
 impl Row {
-    pub(crate) fn step(self) -> Step
-        ensures { step_of result ≡ (row_in self).step }
-    {
-        Step {
-            code: self.code,
-            name: self.name,
-            default_kind: self.default_kind,
-            default_payload: self.default_payload,
-        }
-    }
-
     // The slot of its name, by the last bytes: those of a short name are its key.
     pub(crate) fn slot(self, area: &[u8]) -> usize
-        requires { (inside area.now self.name ≡ true) × (self.key ≡ key_of (bytes_at area.now self.name)) }
-        ensures { result ≡ last_key (bytes_at area.now self.name) % 929 }
+        requires { (inside area.now self.step.name ≡ true) × (self.key ≡ key_of (bytes_at area.now self.step.name)) }
+        ensures { result ≡ last_key (bytes_at area.now self.step.name) % 929 }
     {
-        if self.name % 256 <= 8 {
+        if self.step.name % 256 <= 8 {
             return (self.key as usize) % SLOTS;
         }
-        (last_key(area, self.name) as usize) % SLOTS
+        (last_key(area, self.step.name) as usize) % SLOTS
     }
 
     // All that a row by itself is asked.
     pub(crate) fn is_right(self, area: &[u8]) -> bool
         ensures { result ≡ row_right area.now (row_in self) }
     {
-        if !may_stand(self.code, self.style) {
+        let step = self.step;
+        if !may_stand(step.code, self.style) || !step.uses_right(area) {
             return false;
         }
-        let step = self.step();
-        if !step.uses_right(area) {
-            return false;
+        if step.code < 4 {
+            return name_right(area, step.name, self.key);
         }
-        if self.code < 4 {
-            return name_right(area, self.name, self.key);
-        }
-        self.key == key_of(area, self.name)
+        self.key == key_of(area, step.name)
     }
 }
 

@@ -1,34 +1,28 @@
 // A built list laid out in lent cells: two cells in front, then a row for each parameter.
-ghost use Rattle.std.specs.Prelude.{◌≡◌, ◌+◌, ◌*◌, ◌≤◌, length};
+ghost use Rattle.std.specs.Prelude.{◌≡◌, ◌+◌, ◌*◌, ◌<◌, ◌≤◌, length};
 ghost use Rattle.rules.specs.Cells.{over};
 ghost use Rattle.rules.specs.Parameters.{rank};
 ghost use Rattle.cells.specs.Out.{stored};
 ghost use Rattle.cells.specs.Value.{pair_of};
-ghost use Rattle.builder.specs.Params.{style_for, parameters_in, parameter_of};
+ghost use Rattle.builder.specs.Params.{style_for, parameters_in, parameter_at};
 ghost use Rattle.prepared.specs.Prepared.{row_cells, row_of, prepared_cells};
 ghost use Rattle.prepared.specs.Rows.{row_in};
 ghost use Rattle.prepared.specs.Written.{code_as, default_as};
 
 use crate::row::{FRONT, ROW, Row, key_of};
-use builder::params::Parameters;
+use builder::params::Step;
+use builder::spec::ParametersSpec;
 use cells::out::put;
 use cells::value::Pair;
 
 // All of it, from cell 0 on; the cells behind it are kept.
-pub(crate) fn write_list(params: &Parameters, function: u64, area: &[u8], out: &mut [u64])
-    requires { (params.now.len ≤ 64) × (2 + 6 * params.now.len ≤ length out.old) }
-    ensures { out.new ≡ over (prepared_cells function (parameters_in area.now params.now)) out.old }
+pub(crate) fn write_list(list: &ParametersSpec, function: u64, out: &mut [u64])
+    requires { (list.now.params.len ≤ 64) × (2 + 6 * list.now.params.len ≤ length out.old) }
+    ensures { out.new ≡ over (prepared_cells function (parameters_in list.now.area.now list.now.params)) out.old }
 {
-    put(out, 0, Pair::new(params.len as u64, function));
-    for i in 0..params.len {
-        let row = row_for(
-            area,
-            params.codes[i],
-            params.styles[i],
-            params.names[i],
-            Pair::new(params.default_kinds[i], params.default_payloads[i]),
-        );
-        put_row(row, FRONT + ROW * i, out);
+    put(out, 0, Pair::new(list.params.len as u64, function));
+    for i in 0..list.params.len {
+        put_row(row_for(list, i), FRONT + ROW * i, out);
     }
 }
 
@@ -38,27 +32,36 @@ fn put_row(row: Row, at: usize, out: &mut [u64])
     ensures { out.new ≡ stored out.old at (row_cells (row_in row)) }
 {
     out[at..at + ROW].copy_from_slice(&[
-        row.code,
+        row.step.code,
         row.style,
-        row.name,
-        row.default_kind,
-        row.default_payload,
+        row.step.name,
+        row.step.default_kind,
+        row.step.default_payload,
         row.key,
     ]);
 }
 
-// The row of a parameter, from what the columns keep of it.
-fn row_for(area: &[u8], code: u8, style: u8, name: u64, default: Pair) -> Row
-    ensures { row_in result ≡ row_of (parameter_of area.now code style name (pair_of default)) }
+// The row of the parameter at an index, from what the columns keep of it.
+fn row_for(list: &ParametersSpec, i: usize) -> Row
+    requires { i < 64 }
+    ensures { row_in result ≡ row_of (parameter_at list.now.area.now list.now.params i) }
 {
-    let held = default_for(code, default);
+    let params = &list.params;
+    let code = params.codes[i];
+    let name = params.names[i];
+    let held = default_for(
+        code,
+        Pair::new(params.default_kinds[i], params.default_payloads[i]),
+    );
     Row {
-        code: code_for(code),
-        style: style_for(style),
-        name,
-        default_kind: held.kind,
-        default_payload: held.payload,
-        key: key_of(area, name),
+        step: Step {
+            code: code_for(code),
+            name,
+            default_kind: held.kind,
+            default_payload: held.payload,
+        },
+        style: style_for(params.styles[i]),
+        key: key_of(list.area, name),
     }
 }
 

@@ -51,14 +51,17 @@ module _ (cells area out : List ℕ) (b : Result ParametersSpec Question) (built
       is_list : IsList area l (list_of cells area)
       is_list = built.fine l e
 
-      same : parameters_in area l.params ≡ list_of cells area
-      same = is_list.parameters
+      in_area : l.area.now ≡ area
+      in_area = built.in_area l e
 
-      fits : length (printed (parameters_in area l.params)) ≤ length out
+      same : parameters_in l.area.now l.params ≡ list_of cells area
+      same = ap (λ a. parameters_in a l.params) in_area ∙ is_list.parameters
+
+      fits : length (printed (parameters_in l.area.now l.params)) ≤ length out
       unfolding printed_least
       fits = omega (arith, list_fits 64 cells area asked, ap (λ qs. length (printed qs)) same)
 
-      pub list_ready : ListReady area l out
+      pub list_ready : ListReady l.area.now l out
       list_ready =
           record {
             count = is_list.room;
@@ -67,7 +70,7 @@ module _ (cells area out : List ℕ) (b : Result ParametersSpec Question) (built
             room = fits;
           }
 
-      pub print_list : (after : List ℕ) (k : ℕ) → ListWritten area l out after k → Printing cells area out after (Ok k)
+      pub print_list : (after : List ℕ) (k : ℕ) → ListWritten l.area.now l out after k → Printing cells area out after (Ok k)
       unfolding parameters_str printed_least
       print_list after k w =
           answered cells area out after (Ok k)

@@ -154,19 +154,19 @@ items_at s area p i text e u t =
 -- ---- a loop over the columns: the items before an index, the one at it, and those behind it
 
 -- none at first
-pub items_none : (s : Style) (area : List ℕ) (p : Parameters) (line : Line) (out : List ℕ) → Room (items_of (under s) (parameters_in area p)) line out
-    → Added (items_of (under s) (listed (parameter_at area p) 0 0)) line out out line
+pub items_none : (s : Style) (area : List ℕ) (p : Parameters) (line : Line) → Room (items_of (under s) (parameters_in area p)) line
+    → Added (items_of (under s) (listed (parameter_at area p) 0 0)) line line
 unfolding items_of
-items_none s area p line out room = added_none line out (omega arith)
+items_none s area p line room = added_none line (omega arith)
 
 -- and all of them at the end
-pub items_whole : (s : Style) (area : List ℕ) (p : Parameters) (line : Line) (out : List ℕ) (i : ℕ) → i ≡ p.len → (held : List ℕ) (end : Line)
-    → Added (items_of (under s) (listed (parameter_at area p) 0 i)) line out held end → Added (items_of (under s) (parameters_in area p)) line out held end
+pub items_whole : (s : Style) (area : List ℕ) (p : Parameters) (line : Line) (i : ℕ) → i ≡ p.len → (end : Line)
+    → Added (items_of (under s) (listed (parameter_at area p) 0 i)) line end → Added (items_of (under s) (parameters_in area p)) line end
 unfolding parameters_in
-items_whole s area p line out i e held end a = added_same _ _ (ap (λ n. items_of (under s) (listed (parameter_at area p) 0 n)) e) a
+items_whole s area p line i e end a = added_same _ _ (ap (λ n. items_of (under s) (listed (parameter_at area p) 0 n)) e) a
 
-module _ (s : Style) (area : List ℕ) (p : Parameters) (line : Line) (out : List ℕ)
-    (room : Room (items_of (under s) (parameters_in area p)) line out) (i : ℕ) (h : i < p.len) where
+module _ (s : Style) (area : List ℕ) (p : Parameters) (line : Line)
+    (room : Room (items_of (under s) (parameters_in area p)) line) (i : ℕ) (h : i < p.len) where
   -- the list, cut at the index
   cut : parameters_in area p ≡ listed (parameter_at area p) 0 (i + 1) ++ listed (parameter_at area p) (i + 1) (p.len - (i + 1))
   unfolding parameters_in
@@ -177,18 +177,18 @@ module _ (s : Style) (area : List ℕ) (p : Parameters) (line : Line) (out : Lis
   one_more : items_of (under s) (listed (parameter_at area p) 0 (i + 1)) ≡ items_of (under s) (listed (parameter_at area p) 0 i) ++ items_of (under s) (parameter_at area p i ∷ [])
   one_more = ap (items_of (under s)) (listed_more (parameter_at area p) i) ∙ items_append (under s) (listed (parameter_at area p) 0 i) (parameter_at area p i ∷ [])
 
-  room_more : Room (items_of (under s) (listed (parameter_at area p) 0 i) ++ items_of (under s) (parameter_at area p i ∷ [])) line out
+  room_more : Room (items_of (under s) (listed (parameter_at area p) 0 i) ++ items_of (under s) (parameter_at area p i ∷ [])) line
   room_more =
-      room_same _ _ line out one_more
-      (room_front (items_of (under s) (listed (parameter_at area p) 0 (i + 1))) (items_of (under s) (listed (parameter_at area p) (i + 1) (p.len - (i + 1)))) line out
-      (room_same _ _ line out (ap (items_of (under s)) cut ∙ items_append (under s) (listed (parameter_at area p) 0 (i + 1)) (listed (parameter_at area p) (i + 1) (p.len - (i + 1)))) room))
+      room_same _ _ line one_more
+      (room_front (items_of (under s) (listed (parameter_at area p) 0 (i + 1))) (items_of (under s) (listed (parameter_at area p) (i + 1) (p.len - (i + 1)))) line
+      (room_same _ _ line (ap (items_of (under s)) cut ∙ items_append (under s) (listed (parameter_at area p) 0 (i + 1)) (listed (parameter_at area p) (i + 1) (p.len - (i + 1)))) room))
 
-  module _ (held : List ℕ) (end : Line) (done : Added (items_of (under s) (listed (parameter_at area p) 0 i)) line out held end) where
-    pub items_room : Room (items_of (under s) (parameter_at area p i ∷ [])) end held
-    items_room = room_rest (items_of (under s) (listed (parameter_at area p) 0 i)) (items_of (under s) (parameter_at area p i ∷ [])) line out room_more held end done
+  module _ (end : Line) (done : Added (items_of (under s) (listed (parameter_at area p) 0 i)) line end) where
+    pub items_room : Room (items_of (under s) (parameter_at area p i ∷ [])) end
+    items_room = room_rest (items_of (under s) (listed (parameter_at area p) 0 i)) (items_of (under s) (parameter_at area p i ∷ [])) line room_more end done
 
-    pub items_more : (after : List ℕ) (next : Line) → Added (items_of (under s) (parameter_at area p i ∷ [])) end held after next
-        → Added (items_of (under s) (listed (parameter_at area p) 0 (i + 1))) line out after next
-    items_more after next a =
+    pub items_more : (next : Line) → Added (items_of (under s) (parameter_at area p i ∷ [])) end next
+        → Added (items_of (under s) (listed (parameter_at area p) 0 (i + 1))) line next
+    items_more next a =
         added_same _ _ (sym one_more)
-        (added_then (items_of (under s) (listed (parameter_at area p) 0 i)) (items_of (under s) (parameter_at area p i ∷ [])) line out room_more held after end next done a)
+        (added_then (items_of (under s) (listed (parameter_at area p) 0 i)) (items_of (under s) (parameter_at area p i ∷ [])) line room_more end done next a)

@@ -4,6 +4,9 @@ use mathlib.Core.Path.{◌≡◌, refl, sym, ap, ap₂, ◌∙◌}
 use mathlib.Core.Bool.{Bool, true, false, cond, not, ◌&&◌, ◌||◌}
 use mathlib.Core.List.{List, [], ◌∷◌, ◌++◌, map, append_assoc}
 use Rattle.std.specs.Prelude as std
+use Rattle.std.specs.Option.{option_copied, option_or, option_to_list}
+use Rattle.std.specs.Bool.{then_some}
+use Rattle.std.specs.Borrow.{Bor, MutBor}
 use mathlib.Core.Option.{Option, none, some}
 use Prim.Native.Nat.{ℕ, suc, ◌+◌, ◌≤◌}
 use native.Mathlib.Nat.{zero-add}
@@ -13,16 +16,16 @@ use lib.ListN.{length}
 use Rattle.rules.specs.Listing.{any, keep, first_from}
 use Rattle.rules.specs.Parameters.{Style, pos_only, pos_or_named, named_only, no_more, rank, comes_before, Parameter, plain, takes_position, takes_name, positional, nameable, positional_only, is_args, is_kwargs, has_args, has_kwargs, args_index, kwargs_index}
 use Rattle.rules.specs.Printed.{item, items_of, either_way, name_only, if_any, slash_item, star_item, kwargs_item, printed}
-use Rattle.cells.specs.Out.{stored}
+use Rattle.cells.specs.Out.{Put, Begins}
 use Rattle.builder.specs.Params.{parameters_in}
 use Rattle.builder.specs.Spec.{index_of}
 use Rattle.builder.specs.declared.spec.ParametersSpec.{ParametersSpec}
 use Rattle.printer.specs.Items.{under}
-use Rattle.printer.specs.Line.{led, Room, Added}
-use Rattle.printer.specs.Printed.{star_for, positional_items, named_items, ListWritten}
+use Rattle.printer.specs.Line.{cursor_of, led, Room, Added}
+use Rattle.printer.specs.Printed.{positional_items, named_items, ListWritten}
 use Rattle.printer.specs.declared.line.Line.{Line}
 use Rattle.cells.proofs.LawsOut.{stored_first}
-use Rattle.printer.proofs.LawsLine.{join_led, room_same}
+use Rattle.printer.proofs.LawsLine.{join_led}
 use Rattle.printer.proofs.LawsItems.{items_same}
 
 -- ---- the sorts are those of a style
@@ -59,29 +62,6 @@ named_under q = go (plain q.kind) q.style
     go true no_more = refl
     go false s = refl
 
--- ---- the signs
-
--- there are items of a sort where a parameter is of it
-if_any_any : (test : Parameter → Bool) (qs : List Parameter) (xs : List (List ℕ)) → if_any (items_of test qs) xs ≡ cond (any test qs) xs []
-unfolding items_of
-if_any_any test [] xs = refl
-if_any_any test (q ∷ qs) xs = go (test q) (if_any_any test qs xs)
-  where
-    go : (b : Bool) → if_any (map item (keep test qs)) xs ≡ cond (any test qs) xs []
-        → if_any (map item (cond b (q ∷ keep test qs) (keep test qs))) xs ≡ cond (b || any test qs) xs []
-    go true e = refl
-    go false e = e
-
-slash_under : (qs : List Parameter) → slash_item qs ≡ cond (any (under pos_only) qs) ((47 ∷ []) ∷ []) []
-unfolding slash_item
-slash_under qs = ap (λ is. if_any is ((47 ∷ []) ∷ [])) (items_same positional_only (under pos_only) only_under qs) ∙ if_any_any (under pos_only) qs ((47 ∷ []) ∷ [])
-
-star_under : (qs : List Parameter) → star_item qs ≡ star_for (has_args qs) (any (under named_only) qs)
-unfolding star_item
-star_under qs =
-    ap (cond (has_args qs) ((42 ∷ 97 ∷ 114 ∷ 103 ∷ 115 ∷ []) ∷ []))
-    (ap (λ is. if_any is ((42 ∷ []) ∷ [])) (items_same name_only (under named_only) named_under qs) ∙ if_any_any (under named_only) qs ((42 ∷ []) ∷ []))
-
 -- ---- the indices
 
 abbrev found : Option ℕ → Bool
@@ -108,32 +88,68 @@ pub given_kwargs : (index : std.Option ℕ) (qs : List Parameter) → index_of i
 unfolding kwargs_index has_kwargs
 given_kwargs index qs e = is_found index ∙ ap found e ∙ first_any (λ q. is_kwargs q.kind) 0 qs
 
+-- ---- the signs, each where the code asks for it
+
+-- there are items of a sort where a parameter is of it
+if_any_any : (test : Parameter → Bool) (qs : List Parameter) (xs : List (List ℕ)) → if_any (items_of test qs) xs ≡ cond (any test qs) xs []
+unfolding items_of
+if_any_any test [] xs = refl
+if_any_any test (q ∷ qs) xs = go (test q) (if_any_any test qs xs)
+  where
+    go : (b : Bool) → if_any (map item (keep test qs)) xs ≡ cond (any test qs) xs []
+        → if_any (map item (cond b (q ∷ keep test qs) (keep test qs))) xs ≡ cond (b || any test qs) xs []
+    go true e = refl
+    go false e = e
+
+-- a text where a test says so, as items
+shown_if : (b : Bool) (text : Bor (List ℕ)) (sign : std.Option (Bor (List ℕ))) → sign ≡ then_some b text → option_to_list (option_copied sign) ≡ cond b (text.now ∷ []) []
+shown_if true text sign e = ap (λ s. option_to_list (option_copied s)) e
+shown_if false text sign e = ap (λ s. option_to_list (option_copied s)) e
+
+pub slash_sign : (b : Bool) (text : Bor (List ℕ)) (sign : std.Option (Bor (List ℕ))) (qs : List Parameter)
+    → sign ≡ then_some b text → text.now ≡ 47 ∷ [] → b ≡ any (under pos_only) qs → option_to_list (option_copied sign) ≡ slash_item qs
+unfolding slash_item
+slash_sign b text sign qs e t f =
+    shown_if b text sign e ∙ ap₂ (λ b x. cond b (x ∷ []) []) f t
+    ∙ sym (ap (λ is. if_any is ((47 ∷ []) ∷ [])) (items_same positional_only (under pos_only) only_under qs) ∙ if_any_any (under pos_only) qs ((47 ∷ []) ∷ []))
+
+pub kwargs_sign : (b : Bool) (text : Bor (List ℕ)) (sign : std.Option (Bor (List ℕ))) (qs : List Parameter)
+    → sign ≡ then_some b text → text.now ≡ 42 ∷ 42 ∷ 107 ∷ 119 ∷ 97 ∷ 114 ∷ 103 ∷ 115 ∷ [] → b ≡ has_kwargs qs
+    → option_to_list (option_copied sign) ≡ kwargs_item qs
+unfolding kwargs_item
+kwargs_sign b text sign qs e t f = shown_if b text sign e ∙ ap₂ (λ b x. cond b (x ∷ []) []) f t
+
+-- the one where there is one, or else the other
+pub star_sign : (a b : Bool) (long short : Bor (List ℕ)) (args bare sign : std.Option (Bor (List ℕ))) (qs : List Parameter)
+    → sign ≡ option_or args bare → args ≡ then_some a long → bare ≡ then_some b short
+    → long.now ≡ 42 ∷ 97 ∷ 114 ∷ 103 ∷ 115 ∷ [] → short.now ≡ 42 ∷ []
+    → a ≡ has_args qs → b ≡ any (under named_only) qs → option_to_list (option_copied sign) ≡ star_item qs
+unfolding star_item
+star_sign a b long short args bare sign qs e f g s t h i =
+    ap (λ o. option_to_list (option_copied o)) (e ∙ ap₂ option_or f g) ∙ either a b ∙ ap₂ (λ x y. cond x ((42 ∷ 97 ∷ 114 ∷ 103 ∷ 115 ∷ []) ∷ []) (cond y ((42 ∷ []) ∷ []) [])) h i
+    ∙ sym
+    (ap (cond (has_args qs) ((42 ∷ 97 ∷ 114 ∷ 103 ∷ 115 ∷ []) ∷ []))
+    (ap (λ is. if_any is ((42 ∷ []) ∷ [])) (items_same name_only (under named_only) named_under qs) ∙ if_any_any (under named_only) qs ((42 ∷ []) ∷ [])))
+  where
+    either : (x y : Bool) → option_to_list (option_copied (option_or (then_some x long) (then_some y short))) ≡ cond x ((42 ∷ 97 ∷ 114 ∷ 103 ∷ 115 ∷ []) ∷ []) (cond y ((42 ∷ []) ∷ []) [])
+    either true y = ap {B = List (List ℕ)} (λ x. x ∷ []) s
+    either false true = ap {B = List (List ℕ)} (λ x. x ∷ []) t
+    either false false = refl
+
 -- ---- the halves, by what the code asks
 
-pub positional_parts : (slash : Bool) (qs : List Parameter) → slash ≡ any (under pos_only) qs
-    → positional_items qs ≡ items_of (under pos_only) qs ++ (cond slash ((47 ∷ []) ∷ []) [] ++ items_of (under pos_or_named) qs)
+pub positional_parts : (slash : List (List ℕ)) (qs : List Parameter) → slash ≡ slash_item qs
+    → positional_items qs ≡ items_of (under pos_only) qs ++ (slash ++ items_of (under pos_or_named) qs)
 unfolding positional_items
 positional_parts slash qs e =
     ap₂ (λ a b. a ++ b) (items_same positional_only (under pos_only) only_under qs)
-    (ap₂ (λ a b. a ++ b) (slash_under qs ∙ ap (λ b. cond b ((47 ∷ []) ∷ []) []) (sym e)) (items_same either_way (under pos_or_named) either_under qs))
+    (ap₂ (λ a b. a ++ b) (sym e) (items_same either_way (under pos_or_named) either_under qs))
 
-pub named_parts : (args kwargs keywords : Bool) (qs : List Parameter) → args ≡ has_args qs → kwargs ≡ has_kwargs qs → keywords ≡ any (under named_only) qs
-    → named_items qs
-    ≡ star_for args keywords ++ (items_of (under named_only) qs ++ cond kwargs ((42 ∷ 42 ∷ 107 ∷ 119 ∷ 97 ∷ 114 ∷ 103 ∷ 115 ∷ []) ∷ []) [])
-unfolding named_items kwargs_item
-named_parts args kwargs keywords qs e f g =
-    ap₂ (λ a b. a ++ b) (star_under qs ∙ ap₂ star_for (sym e) (sym g))
-    (ap₂ (λ a b. a ++ b) (items_same name_only (under named_only) named_under qs) (ap (λ b. cond b ((42 ∷ 42 ∷ 107 ∷ 119 ∷ 97 ∷ 114 ∷ 103 ∷ 115 ∷ []) ∷ []) []) (sym f)))
-
--- room for a half is room for its parts
-pub positional_room : (slash : Bool) (qs : List Parameter) (line : Line) (out : List ℕ) → slash ≡ any (under pos_only) qs → Room (positional_items qs) line out
-    → Room (items_of (under pos_only) qs ++ (cond slash ((47 ∷ []) ∷ []) [] ++ items_of (under pos_or_named) qs)) line out
-positional_room slash qs line out e h = room_same _ _ line out (positional_parts slash qs e) h
-
-pub named_room : (args kwargs keywords : Bool) (qs : List Parameter) (line : Line) (out : List ℕ)
-    → args ≡ has_args qs → kwargs ≡ has_kwargs qs → keywords ≡ any (under named_only) qs → Room (named_items qs) line out
-    → Room (star_for args keywords ++ (items_of (under named_only) qs ++ cond kwargs ((42 ∷ 42 ∷ 107 ∷ 119 ∷ 97 ∷ 114 ∷ 103 ∷ 115 ∷ []) ∷ []) [])) line out
-named_room args kwargs keywords qs line out e f g h = room_same _ _ line out (named_parts args kwargs keywords qs e f g) h
+pub named_parts : (star kwargs : List (List ℕ)) (qs : List Parameter) → star ≡ star_item qs → kwargs ≡ kwargs_item qs
+    → named_items qs ≡ star ++ (items_of (under named_only) qs ++ kwargs)
+unfolding named_items
+named_parts star kwargs qs e f =
+    ap₂ (λ a b. a ++ b) (sym e) (ap₂ (λ a b. a ++ b) (items_same name_only (under named_only) named_under qs) (sym f))
 
 -- ---- the whole
 
@@ -145,19 +161,16 @@ printed_led qs = join_led (items_of positional_only qs ++ (slash_item qs ++ (ite
         ≡ items_of positional_only qs ++ (slash_item qs ++ (items_of either_way qs ++ (star_item qs ++ (items_of name_only qs ++ kwargs_item qs))))
     regroup = simp append_assoc
 
--- room for the list is room for both halves, from byte 0 on
-pub list_room : (qs : List Parameter) (out : List ℕ) → length (printed qs) ≤ length out → Room (positional_items qs ++ named_items qs) (record { at = 0; begun = false }) out
-list_room qs out h = omega (arith, ap length (printed_led qs))
+-- on a line of no item, room for the list is room for both halves
+module _ {out : MutBor (List ℕ)} (line : Line) (b : Begins out (cursor_of line)) (none_begun : line.begun ≡ false) where
+  pub list_room : (qs : List Parameter) → length (printed qs) ≤ length out.now → Room (positional_items qs ++ named_items qs) line
+  list_room qs h = rw (none_begun, b.at) (omega (arith, ap length (printed_led qs), ap length b.held))
 
--- a line from byte 0 on that holds both halves is the printed list
-pub list_written : (area : List ℕ) (l : ParametersSpec) (before after : List ℕ) (r : Line)
-    → length (printed (parameters_in area l.params)) ≤ length before
-    → Added (positional_items (parameters_in area l.params) ++ named_items (parameters_in area l.params)) (record { at = 0; begun = false }) before after r
-    → ListWritten area l before after r.at
-list_written area l before after r h a =
-    let qs = parameters_in area l.params in
-    let e : printed qs ≡ led false (positional_items qs ++ named_items qs) = printed_led qs in
-    record {
-      held = a.put.held ∙ ap (stored before 0) (sym e) ∙ stored_first before (printed qs) h;
-      ends = a.put.ends ∙ ap (λ n. 0 + n) (ap length (sym e)) ∙ zero-add (length (printed qs));
-    }
+  -- and with both halves it is the printed list
+  pub list_written : (area : List ℕ) (l : ParametersSpec) (end : Line) (after : List ℕ) → length (printed (parameters_in area l.params)) ≤ length out.now
+      → Added (positional_items (parameters_in area l.params) ++ named_items (parameters_in area l.params)) line end → after ≡ end.out.now
+      → ListWritten area l out.now after end.at
+  list_written area l end after h a f =
+      let qs = parameters_in area l.params in
+      let p : Put (printed qs) 0 out.now end.out.now end.at = rw (none_begun, b.at, b.held, sym (printed_led qs)) at a.wrote.put in
+      record { held = f ∙ p.held ∙ stored_first out.now (printed qs) h; ends = p.ends ∙ zero-add (length (printed qs)) }

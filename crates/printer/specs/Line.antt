@@ -3,9 +3,14 @@ use Rattle.std.specs.Prelude.{Bool, true, false, List, [], ◌∷◌, ◌++◌, 
 use Rattle.rules.specs.Value.{no_value}
 use Rattle.rules.specs.Parameters.{act_of}
 use Rattle.rules.specs.Printed.{mark, comma}
-use Rattle.cells.specs.Out.{Put}
+use Rattle.cells.specs.declared.out.Cursor.{Cursor}
+use Rattle.cells.specs.Out.{Wrote}
 use Rattle.builder.specs.Params.{kind_for}
 use Rattle.printer.specs.declared.line.Line.{Line}
+
+-- where a line is written
+abbrev pub cursor_of : Line → Cursor
+cursor_of line = record { out = line.out; at = line.at }
 
 -- what stands ahead of an item: nothing ahead of the first
 abbrev pub between : Bool → List ℕ
@@ -27,10 +32,10 @@ unfoldable pub mark_for : ℕ → List ℕ
 mark_for code = mark (kind_for (act_of code no_value))
 
 -- the output has room for some more items
-abbrev pub Room : List (List ℕ) → Line → List ℕ → Type 0
-Room xs line out = line.at + length (led line.begun xs) ≤ length out
+abbrev pub Room : List (List ℕ) → Line → Type 0
+Room xs line = line.at + length (led line.begun xs) ≤ length line.out.now
 
--- the line with some more items: what the output holds and where the line ends, and that it is begun
-pub record Added (xs : List (List ℕ)) (line : Line) (before after : List ℕ) (r : Line) : Type 0 where
-  pub put : Put (led line.begun xs) line.at before after r.at
-  pub begun : r.begun ≡ begun_by line.begun xs
+-- a line with some more items: what is written, and that it is begun
+pub record Added (xs : List (List ℕ)) (before after : Line) : Type 0 where
+  pub wrote : Wrote (led before.begun xs) (cursor_of before) (cursor_of after)
+  pub begun : after.begun ≡ begun_by before.begun xs

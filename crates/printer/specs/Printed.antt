@@ -1,5 +1,5 @@
 -- What printing a list promises (01, printed list): the answer and the output of the definition.
-use Rattle.std.specs.Prelude.{Result, Ok, Err, Bool, cond, List, [], ◌∷◌, ◌++◌, ◌≡◌, ℕ, ◌≤◌, length}
+use Rattle.std.specs.Prelude.{Result, Ok, Err, List, ◌++◌, ◌≡◌, ℕ, ◌≤◌, length}
 use Rattle.rules.specs.Answer.{none}
 use Rattle.rules.specs.Cells.{over}
 use Rattle.rules.specs.Parameters.{Parameter, positional_only, args_index, kwargs_index}
@@ -24,10 +24,6 @@ pub record Printing (cells area before after : List ℕ) (r : Result ℕ Questio
   pub answer : access_in r ≡ parameters_str 64 cells area before
   pub held : after ≡ left_by (parameters_str 64 cells area before) (printed (list_of cells area)) before
 
--- `*args`, or `*` where something is given by name only
-abbrev pub star_for : Bool → Bool → List (List ℕ)
-star_for args named = cond args ((42 ∷ 97 ∷ 114 ∷ 103 ∷ 115 ∷ []) ∷ []) (cond named ((42 ∷ []) ∷ []) [])
-
 -- the two halves of the items: what is given by position, and what is not
 unfoldable pub positional_items : List Parameter → List (List ℕ)
 positional_items qs = items_of positional_only qs ++ (slash_item qs ++ items_of either_way qs)
@@ -36,11 +32,11 @@ unfoldable pub named_items : List Parameter → List (List ℕ)
 named_items qs = star_item qs ++ (items_of name_only qs ++ kwargs_item qs)
 
 -- a list whose indices are its own, and room for the second half
-pub record NamedReady (area : List ℕ) (l : ParametersSpec) (line : Line) (out : List ℕ) : Type 0 where
+pub record NamedReady (area : List ℕ) (l : ParametersSpec) (line : Line) : Type 0 where
   pub count : l.params.len ≤ 64
   pub args : index_of l.indices.args ≡ args_index (parameters_in area l.params)
   pub kwargs : index_of l.indices.kwargs ≡ kwargs_index (parameters_in area l.params)
-  pub room : Room (named_items (parameters_in area l.params)) line out
+  pub room : Room (named_items (parameters_in area l.params)) line
 
 -- a list whose indices are its own, and room for all of it
 pub record ListReady (area : List ℕ) (l : ParametersSpec) (out : List ℕ) : Type 0 where

@@ -8,26 +8,19 @@ ghost use Rattle.builder.specs.Params.{style_of, parameter_at, parameters_in};
 ghost use Rattle.printer.specs.Items.{is_under, under};
 ghost use Rattle.printer.specs.Line.{Room, Added};
 
-use crate::line::{Line, write_item};
+use crate::line::Line;
 use crate::name::printed_name;
 use builder::params::{CurrentParameterStyle, Parameters};
+use builder::spec::ParametersSpec;
 
 // All items of a style, in their order.
-pub(crate) fn write_items(
-    params: &Parameters,
-    area: &[u8],
-    style: CurrentParameterStyle,
-    line: Line,
-    out: &mut [u8],
-) -> Line
-    requires { (params.now.len ≤ 64) × (comes_before (style_of style) no_more ≡ true) × Room (items_of (under (style_of style)) (parameters_in area.now params.now)) line out.old }
-    ensures { Added (items_of (under (style_of style)) (parameters_in area.now params.now)) line out.old out.new result }
+pub(crate) fn write_items(list: &ParametersSpec, style: CurrentParameterStyle, line: &mut Line)
+    requires { (list.now.params.len ≤ 64) × (comes_before (style_of style) no_more ≡ true) × Room (items_of (under (style_of style)) (parameters_in list.now.area.now list.now.params)) line.old }
+    ensures { Added (items_of (under (style_of style)) (parameters_in list.now.area.now list.now.params)) line.old line.new }
 {
-    let mut end = line;
-    for i in 0..params.len {
-        end = write_parameter(params, i, area, style, end, out);
+    for i in 0..list.params.len {
+        write_parameter(list, i, style, line);
     }
-    end
 }
 
 // Is there one?
@@ -39,22 +32,15 @@ pub(crate) fn any_item(params: &Parameters, style: CurrentParameterStyle) -> boo
 }
 
 // The item of the parameter at an index, if it is one of the style.
-fn write_parameter(
-    params: &Parameters,
-    i: usize,
-    area: &[u8],
-    style: CurrentParameterStyle,
-    line: Line,
-    out: &mut [u8],
-) -> Line
-    requires { (i < 64) × (comes_before (style_of style) no_more ≡ true) × Room (items_of (under (style_of style)) (parameter_at area.now params.now i ∷ [])) line out.old }
-    ensures { Added (items_of (under (style_of style)) (parameter_at area.now params.now i ∷ [])) line out.old out.new result }
+fn write_parameter(list: &ParametersSpec, i: usize, style: CurrentParameterStyle, line: &mut Line)
+    requires { (i < 64) × (comes_before (style_of style) no_more ≡ true) × Room (items_of (under (style_of style)) (parameter_at list.now.area.now list.now.params i ∷ [])) line.old }
+    ensures { Added (items_of (under (style_of style)) (parameter_at list.now.area.now list.now.params i ∷ [])) line.old line.new }
 {
-    let code = params.codes[i];
-    if !is_under(code, params.styles[i], style) {
-        return line;
+    let code = list.params.codes[i];
+    if is_under(code, list.params.styles[i], style) {
+        let name = printed_name(list.area, list.params.names[i]);
+        line.write_item(name, code);
     }
-    write_item(printed_name(area, params.names[i]), code, line, out)
 }
 
 // Is this the code of a plain parameter, and this the number of the style?

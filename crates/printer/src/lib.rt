@@ -6,14 +6,15 @@
 ghost use Rattle.std.specs.Prelude.{◌≤◌};
 ghost use Rattle.builder.specs.Params.{parameters_in};
 ghost use Rattle.printer.specs.Line.{Room, Added};
-ghost use Rattle.printer.specs.Printed.{star_for, positional_items, named_items, NamedReady, ListReady, ListWritten, Printing};
+ghost use Rattle.printer.specs.Printed.{positional_items, named_items, NamedReady, ListReady, ListWritten, Printing};
 
 use builder::build;
-use builder::params::{CurrentParameterStyle, Parameters};
+use builder::params::CurrentParameterStyle;
 use builder::spec::ParametersSpec;
 use cells::question::Question;
+use cells::record::Record;
 use items::{any_item, write_items};
-use line::{Line, write_sign};
+use line::Line;
 
 pub mod items;
 pub mod line;
@@ -23,62 +24,47 @@ pub mod name;
 pub const PRINTED: usize = 8192;
 
 // How many bytes the list takes in the output. Questions 1 to 7, then 29; nothing is written before the last of them.
-pub fn parameters_str(cells: &[u64], area: &[u8], out: &mut [u8]) -> Result<usize, Question>
-    ensures { Printing cells.now area.now out.old out.new result }
+pub fn parameters_str(record: &Record, out: &mut [u8]) -> Result<usize, Question>
+    ensures { Printing record.now.cells.now record.now.area.now out.old out.new result }
 {
-    let list = build(cells, area)?;
+    let list = build(record)?;
     if out.len() < PRINTED {
         return Err(Question::ShortOutput);
     }
-    Ok(write_list(&list, area, out))
+    Ok(write_list(&list, out))
 }
 
 // The whole list from byte 0 on, and its length.
-fn write_list(list: &ParametersSpec, area: &[u8], out: &mut [u8]) -> usize
-    requires { ListReady area.now list.now out.old }
-    ensures { ListWritten area.now list.now out.old out.new result }
+fn write_list(list: &ParametersSpec, out: &mut [u8]) -> usize
+    requires { ListReady list.now.area.now list.now out.old }
+    ensures { ListWritten list.now.area.now list.now out.old out.new result }
 {
-    let start = Line {
-        at: 0,
-        begun: false,
-    };
-    let middle = write_positional(&list.params, area, start, out);
-    let end = write_named(list, area, middle, out);
-    end.at
+    let mut line = Line::new(out);
+    write_positional(list, &mut line);
+    write_named(list, &mut line);
+    line.at
 }
 
 // What is given by position: the items given so only and `/` behind them, and those given either way.
-fn write_positional(params: &Parameters, area: &[u8], line: Line, out: &mut [u8]) -> Line
-    requires { (params.now.len ≤ 64) × Room (positional_items (parameters_in area.now params.now)) line out.old }
-    ensures { Added (positional_items (parameters_in area.now params.now)) line out.old out.new result }
+fn write_positional(list: &ParametersSpec, line: &mut Line)
+    requires { (list.now.params.len ≤ 64) × Room (positional_items (parameters_in list.now.area.now list.now.params)) line.old }
+    ensures { Added (positional_items (parameters_in list.now.area.now list.now.params)) line.old line.new }
 {
-    let slash = any_item(params, CurrentParameterStyle::PosOnly);
-    let only = write_items(params, area, CurrentParameterStyle::PosOnly, line, out);
-    let marked = write_sign(slash, b"/", only, out);
-    write_items(params, area, CurrentParameterStyle::PosOrNamed, marked, out)
+    let slash = any_item(&list.params, CurrentParameterStyle::PosOnly).then_some(&b"/"[..]);
+    write_items(list, CurrentParameterStyle::PosOnly, line);
+    line.write_sign(slash);
+    write_items(list, CurrentParameterStyle::PosOrNamed, line);
 }
 
 // What is not: `*args` or `*`, the items given by name only, `**kwargs`.
-fn write_named(list: &ParametersSpec, area: &[u8], line: Line, out: &mut [u8]) -> Line
-    requires { NamedReady area.now list.now line out.old }
-    ensures { Added (named_items (parameters_in area.now list.now.params)) line out.old out.new result }
+fn write_named(list: &ParametersSpec, line: &mut Line)
+    requires { NamedReady list.now.area.now list.now line.old }
+    ensures { Added (named_items (parameters_in list.now.area.now list.now.params)) line.old line.new }
 {
-    let params = &list.params;
-    let args = list.indices.args.is_some();
-    let kwargs = list.indices.kwargs.is_some();
-    let keywords = any_item(params, CurrentParameterStyle::NamedOnly);
-    let star = write_star(args, keywords, line, out);
-    let named = write_items(params, area, CurrentParameterStyle::NamedOnly, star, out);
-    write_sign(kwargs, b"**kwargs", named, out)
-}
-
-// `*args`, or else `*` where something is given by name only.
-fn write_star(args: bool, named: bool, line: Line, out: &mut [u8]) -> Line
-    requires { Room (star_for args named) line out.old }
-    ensures { Added (star_for args named) line out.old out.new result }
-{
-    if args {
-        return write_sign(true, b"*args", line, out);
-    }
-    write_sign(named, b"*", line, out)
+    let args = list.indices.args.is_some().then_some(&b"*args"[..]);
+    let bare = any_item(&list.params, CurrentParameterStyle::NamedOnly).then_some(&b"*"[..]);
+    let kwargs = list.indices.kwargs.is_some().then_some(&b"**kwargs"[..]);
+    line.write_sign(args.or(bare));
+    write_items(list, CurrentParameterStyle::NamedOnly, line);
+    line.write_sign(kwargs);
 }

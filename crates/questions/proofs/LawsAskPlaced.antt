@@ -21,7 +21,7 @@ use Rattle.builder.specs.Params.{style_for, parameter_of, parameter_at, paramete
 use Rattle.builder.specs.declared.spec.ParametersSpec.{ParametersSpec}
 use Rattle.answers.specs.Answer.{place_of, answer_in}
 use Rattle.findings.specs.Resolved.{named_at, Resolved}
-use Rattle.findings.specs.Resolve.{Prepared}
+use Rattle.findings.specs.Resolve.{Prepared, with_count}
 use Rattle.findings.specs.Found.{first_missing}
 use Rattle.calls.specs.Values.{positional_at}
 use Rattle.questions.specs.Judge.{lost_to, missing_as, first_of, refused_at, required_as, surplus_as, unknown_as, placed_as, judged_answer}
@@ -56,11 +56,11 @@ missing_style (suc zero) payload = refl
 missing_style (suc (suc zero)) payload = refl
 missing_style (suc (suc (suc n))) payload = refl
 
-missing_asked : (spec : List ℕ) (l : ParametersSpec) (list : Prepared spec l) (o : Option ℕ) (rest : Result ℕ Refusal) (after : Answer) → judged_answer rest ≡ after
-    → judged_answer (first_of (refused_at o (λ i. missing_as (get_or l.params.styles i 0) (get_or l.params.names i 0))) rest) ≡ (missing_at (parameter spec l list) o then after)
+missing_asked : (spec : List ℕ) (l : ParametersSpec) (list : Prepared spec l) (o : Option ℕ) (rest : Result Unit Refusal) (kept : ℕ) (after : Answer) → judged_answer (with_count rest kept) ≡ after
+    → judged_answer (with_count (first_of (refused_at o (λ i. missing_as (get_or l.params.styles i 0) (get_or l.params.names i 0))) rest) kept) ≡ (missing_at (parameter spec l list) o then after)
 unfolding parameter_at parameter_of part_of text_in
-missing_asked spec l list none rest after e = e
-missing_asked spec l list (some i) rest after e = missing_style (get_or l.params.styles i 0) (get_or l.params.names i 0)
+missing_asked spec l list none rest kept after e = e
+missing_asked spec l list (some i) rest kept after e = missing_style (get_or l.params.styles i 0) (get_or l.params.names i 0)
 
 -- ---- the first name of the remainder
 
@@ -76,13 +76,13 @@ first_of_lem area cells (suc n) (y ∷ ys) v ws e = ap first_payload e
 
 -- ---- a refusal by a test, and what comes after it
 
-lost_asked : (b : Bool) (x : Refusal) (n : ℕ) (d : Detail) (rest : Result ℕ Refusal) (after : Answer) → answer_in (Err x) ≡ refuse n d → judged_answer rest ≡ after
-    → judged_answer (first_of (cond b (Err x) (Ok tt)) rest) ≡ (cond b (refuse n d) fine then after)
-lost_asked true x n d rest after e f = e
-lost_asked false x n d rest after e f = f
+lost_asked : (b : Bool) (x : Refusal) (n : ℕ) (d : Detail) (rest : Result Unit Refusal) (kept : ℕ) (after : Answer) → answer_in (Err x) ≡ refuse n d → judged_answer (with_count rest kept) ≡ after
+    → judged_answer (with_count (first_of (cond b (Err x) (Ok tt)) rest) kept) ≡ (cond b (refuse n d) fine then after)
+lost_asked true x n d rest kept after e f = e
+lost_asked false x n d rest kept after e f = f
 
 -- nothing comes after it
-last_asked : (b : Bool) (x : Refusal) (n : ℕ) (d : Detail) (kept : ℕ) → answer_in (Err x) ≡ refuse n d → judged_answer (first_of (cond b (Err x) (Ok tt)) (Ok kept)) ≡ cond b (refuse n d) fine
+last_asked : (b : Bool) (x : Refusal) (n : ℕ) (d : Detail) (kept : ℕ) → answer_in (Err x) ≡ refuse n d → judged_answer (with_count (cond b (Err x) (Ok tt)) kept) ≡ cond b (refuse n d) fine
 last_asked true x n d kept e = e
 last_asked false x n d kept e = refl
 
@@ -96,7 +96,7 @@ module _ (spec : List ℕ) (l : ParametersSpec) (list : Prepared spec l) (cells 
   first_name v ws e = first_of_lem area cells kept rest v ws (sym e ∙ r.rest_is)
 
   -- 23, the last
-  surplus_asked : judged_answer (first_of (surplus_as l.indices h) (Ok kept)) ≡ ask_star_remainder (has_args qs) (star_remainder qs P)
+  surplus_asked : judged_answer (with_count (surplus_as l.indices h) kept) ≡ ask_star_remainder (has_args qs) (star_remainder qs P)
   unfolding surplus_as
   surplus_asked =
       let surplus : ℕ = h.p + h.s - l.indices.num_positional in
@@ -113,14 +113,14 @@ module _ (spec : List ℕ) (l : ParametersSpec) (list : Prepared spec l) (cells 
       ap (λ b. ask_named_remainder b (named_remainder qs N)) (kwargs_found qs ∙ ap is_some (sym list.is_list.kwargs))
       ∙ named_asked (index_of l.indices.kwargs) (named_remainder qs N) kept (pair_at cells (get_or rest 0 0)).payload (remainder_length qs cells area N sources rest kept r few) first_name
 
-  pub placed_asked : judged_answer (placed_as l cells h next sources rest kept) ≡ ask_placed qs P N
+  pub placed_asked : judged_answer (with_count (placed_as l cells h next sources rest kept) kept) ≡ ask_placed qs P N
   unfolding placed_as required_as unknown_as ask_placed place
   placed_asked =
       let key : ℕ = (pair_at cells (get_or rest 0 0)).payload in
-      let surplus : Result ℕ Refusal = first_of (surplus_as l.indices h) (Ok kept) in
+      let surplus : Result Unit Refusal = surplus_as l.indices h in
       let required : Result Unit Refusal = refused_at (first_missing l.params.codes sources next (l.params.len - next)) (λ i. missing_as (get_or l.params.styles i 0) (get_or l.params.names i 0)) in
-      lost_asked (lost_to kept 0 (index_of l.indices.kwargs)) (ExtraNamedArg kept key) 24 (count_and_name kept (place_of call_area key)) (first_of required surplus) _ refl
-      (missing_asked spec l list (first_missing l.params.codes sources next (l.params.len - next)) surplus (ask_star_remainder (has_args qs) (star_remainder qs P)) surplus_asked
+      lost_asked (lost_to kept 0 (index_of l.indices.kwargs)) (ExtraNamedArg kept key) 24 (count_and_name kept (place_of call_area key)) (first_of required surplus) kept _ refl
+      (missing_asked spec l list (first_missing l.params.codes sources next (l.params.len - next)) surplus kept (ask_star_remainder (has_args qs) (star_remainder qs P)) surplus_asked
       ∙ ap (λ a. a then ask_star_remainder (has_args qs) (star_remainder qs P))
       (sym (required_found spec l list cells area P N sources rest kept next upto r h values (length (star_remainder qs P)) (length (named_remainder qs N)))))
       ∙ ap (λ a. a then ask_required qs (place qs P N) then ask_star_remainder (has_args qs) (star_remainder qs P)) (sym unknown_asked)

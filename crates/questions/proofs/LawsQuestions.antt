@@ -13,7 +13,7 @@ use lib.ListN.{drop, get_or, length-append}
 use Rattle.rules.specs.Text.{Text, text_in}
 use Rattle.rules.specs.Value.{Value, call_text}
 use Rattle.rules.specs.Answer as answers
-use Rattle.rules.specs.Answer.{Answer, fine, refuse, ◌then◌, Detail, name, part_of}
+use Rattle.rules.specs.Answer.{Answer, fine, refuse, ◌then◌, name, part_of}
 use Rattle.rules.specs.CallRecord.{Head, Call, Named, word, number, word_of, words, read_pair, named_in, key_in, entry_in, entries_of, positionals_of, named_of}
 use Rattle.rules.specs.Parameters.{Parameter, positional_count}
 use Rattle.rules.specs.Binding.{ask_repeats, ask_entry, ask_entries, ask_placed, ask_binding}
@@ -28,7 +28,7 @@ use Rattle.cells.proofs.LawsListed.{length_listed}
 use Rattle.calls.specs.Head.{named_from, entries_from}
 use Rattle.answers.specs.Answer.{answer_in, entry_refused}
 use Rattle.findings.specs.Resolved.{named_at, Resolved}
-use Rattle.findings.specs.Resolve.{pairs_from}
+use Rattle.findings.specs.Resolve.{pairs_from, with_count}
 use Rattle.findings.specs.Found.{first_named, first_missing}
 use Rattle.findings.specs.EntriesDone.{written_names, entry_at, entries_in, entries_answer, EntriesReady, EntriesDone}
 use Rattle.questions.specs.Judge.{lost_to, missing_as, first_of, refused_at, star_as, repeats_as, required_as, surplus_as, unknown_as, placed_as, judged_answer, refusing}
@@ -67,25 +67,16 @@ words_named area cells from qs P before k (suc n) e =
     (words_named area cells from qs P (before ++ word_of (entry_at area cells (from + 4 * k)).key (entry_at area cells (from + 4 * k)).value) (suc k) n
     (then_right (ask_entry qs P before (entry_at area cells (from + 4 * k)).key) (ask_entries qs P (before ++ word_of (entry_at area cells (from + 4 * k)).key (entry_at area cells (from + 4 * k)).value) (entries_in area cells from (suc k) n)) e))
 
--- ---- the count that 20 to 24 hand on
+-- ---- an answer, with how many pairs the remainder then has
 
-fine_count : (a b : Bool) (o : Option ℕ) (missing : ℕ → Refusal) (x y : Refusal) (kept n : ℕ)
-    → first_of (cond a (Err x) (Ok tt)) (first_of (refused_at o missing) (first_of (cond b (Err y) (Ok tt)) (Ok kept))) ≡ Ok n → kept ≡ n
-fine_count true b o missing x y kept n e = absurd cc
-fine_count false b (some i) missing x y kept n e = absurd cc
-fine_count false true none missing x y kept n e = absurd cc
-fine_count false false none missing x y kept n e = cc
-
-placed_count : (l : ParametersSpec) (cells : List ℕ) (h : Head) (next : ℕ) (sources rest : List ℕ) (kept n : ℕ) → placed_as l cells h next sources rest kept ≡ Ok n → kept ≡ n
-unfolding placed_as required_as surplus_as unknown_as
-placed_count l cells h next sources rest kept n e =
-    fine_count (lost_to kept 0 (index_of l.indices.kwargs)) (lost_to (h.p + h.s) l.indices.num_positional (index_of l.indices.args)) (first_missing l.params.codes sources next (l.params.len - next))
-    (λ i. missing_as (get_or l.params.styles i 0) (get_or l.params.names i 0)) (ExtraNamedArg kept (pair_at cells (get_or rest 0 0)).payload) (ExtraPositionalArg (h.p + h.s - l.indices.num_positional)) kept n e
+counted_is : (r : Result Unit Refusal) (n m : ℕ) → with_count r n ≡ Ok m → n ≡ m
+counted_is (Ok u) n m e = cc
+counted_is (Err a) n m e = absurd cc
 
 -- ---- a refusal, which resolves nothing
 
 -- 20 to 24 hand on no other refusal
-placed_refusing : (l : ParametersSpec) (cells : List ℕ) (h : Head) (next : ℕ) (sources rest : List ℕ) (count : ℕ) → refusing (placed_as l cells h next sources rest count) ≡ true
+placed_refusing : (l : ParametersSpec) (cells : List ℕ) (h : Head) (next : ℕ) (sources rest : List ℕ) (count : ℕ) → refusing (with_count (placed_as l cells h next sources rest count) count) ≡ true
 unfolding placed_as required_as surplus_as unknown_as
 placed_refusing l cells h next sources rest count =
     first (lost_to count 0 (index_of l.indices.kwargs)) (first_missing l.params.codes sources next (l.params.len - next))
@@ -98,16 +89,18 @@ placed_refusing l cells h next sources rest count =
 
     first : (a : Bool) (o : Option ℕ) (b : Bool)
         → refusing
+        (with_count
         (first_of (cond a (Err (ExtraNamedArg count (pair_at cells (get_or rest 0 0)).payload)) (Ok tt))
-        (first_of (refused_at o (λ i. missing_as (get_or l.params.styles i 0) (get_or l.params.names i 0))) (first_of (cond b (Err (ExtraPositionalArg (h.p + h.s - l.indices.num_positional))) (Ok tt)) (Ok count))))
+        (first_of (refused_at o (λ i. missing_as (get_or l.params.styles i 0) (get_or l.params.names i 0))) (cond b (Err (ExtraPositionalArg (h.p + h.s - l.indices.num_positional))) (Ok tt))))
+        count)
         ≡ true
     first true o b = refl
     first false (some i) b = styled (get_or l.params.styles i 0) (get_or l.params.names i 0)
     first false none true = refl
     first false none false = refl
 
-pub judged_refused : (qs : List Parameter) (c : Call) (cells area : List ℕ) (asked : Answer) (sources rest : List ℕ) (a : Refusal) → refusing (Err a) ≡ true → answer_in (Err a) ≡ asked → Judging qs c cells area asked sources rest (Err a)
-judged_refused qs c cells area asked sources rest a u e = record { answer = e; refusal = u; resolved = λ count f. absurd cc }
+pub judged_refused : {qs : List Parameter} {c : Call} {cells area : List ℕ} {asked : Answer} {sources rest : List ℕ} (a : Refusal) → refusing (Err a) ≡ true → answer_in (Err a) ≡ asked → Judging qs c cells area asked sources rest (Err a)
+judged_refused a u e = record { answer = e; refusal = u; resolved = λ count f. absurd cc }
 
 -- an entry's refusal is collection's
 pub entry_refusing : (e : EntryRefusal) → refusing (Err (entry_refused e)) ≡ true
@@ -118,7 +111,7 @@ entry_told : (e : EntryRefusal) → answer_in (Err (entry_refused e)) ≡ entrie
 entry_told NotText = refl
 entry_told (Repeated payload) = refl
 
-module _ (spec : List ℕ) (l : ParametersSpec) (cells area : List ℕ) (h : Head) (next : ℕ) (c : Call) (ready : CallReady spec l cells area h next c) where
+module _ {spec : List ℕ} {l : ParametersSpec} {cells area : List ℕ} {h : Head} {next : ℕ} {c : Call} (ready : CallReady spec l cells area h next c) where
   abbrev qs : List Parameter
   qs = parameters_in spec l.params
 
@@ -131,11 +124,8 @@ module _ (spec : List ℕ) (l : ParametersSpec) (cells area : List ℕ) (h : Hea
   unfolding positional_count
   next_few = omega (arith, ready.upto, tally_most qs, few_list spec l cells area ready.list)
 
-  pub few_list_of : l.params.len ≤ 64
-  few_list_of = ready.list.is_list.room
-
-  pub entries_ready : (sources rest : List ℕ) (before : ℕ) → Resolved qs cells area (written_names area cells h) sources rest before → EntriesReady spec l cells area h next sources rest before
-  entries_ready sources rest before resolved = record { list = ready.list; P = P; upto = ready.upto; few = ready.few; keys_formed = ready.keys_formed; written = resolved }
+  pub entries_ready : {sources rest : List ℕ} {before : ℕ} → Resolved qs cells area (written_names area cells h) sources rest before → EntriesReady spec l cells area h next sources rest before
+  entries_ready resolved = record { list = ready.list; P = P; upto = ready.upto; few = ready.few; keys_formed = ready.keys_formed; written = resolved }
 
   asked_star : h.star_kind ≡ 2 → refuse 15 answers.none ≡ ask_binding qs c
   unfolding ask_binding
@@ -168,15 +158,15 @@ module _ (spec : List ℕ) (l : ParametersSpec) (cells area : List ℕ) (h : Hea
       go true e g = let same : ArgsArrayIsNotIterable ≡ a = cc in subst (λ x. (refusing (Err x) ≡ true) × (answer_in (Err x) ≡ ask_binding qs c)) same (refl, asked_star (eqb-true h.star_kind 2 e))
       go false e g = absurd cc
 
-  iterable_of : (u : Unit) → star_as h ≡ Ok u → h.star_kind ≡ 2 → ⊥
+  iterable_of : {u : Unit} → star_as h ≡ Ok u → h.star_kind ≡ 2 → ⊥
   unfolding star_as
-  iterable_of u = go (eqb h.star_kind 2) refl
+  iterable_of {u} = go (eqb h.star_kind 2) refl
     where
       go : (b : Bool) → eqb h.star_kind 2 ≡ b → ◌≡◌ {A = Result Unit Refusal} (cond b (Err ArgsArrayIsNotIterable) (Ok tt)) (Ok u) → h.star_kind ≡ 2 → ⊥
       go true e g = absurd cc
       go false e g = eqb-false h.star_kind 2 e
 
-  module _ (u : Unit) (star : star_as h ≡ Ok u) (sources rest : List ℕ) (before : ℕ) (r : Resolved qs cells area (written_names area cells h) sources rest before) where
+  module _ {u : Unit} (star : star_as h ≡ Ok u) {sources rest : List ℕ} {before : ℕ} (r : Resolved qs cells area (written_names area cells h) sources rest before) where
     -- so is one by 16, where 15 does not refuse
     pub repeats_refused : (a : Refusal) → repeats_as l.params next sources ≡ Err a → (refusing (Err a) ≡ true) × (answer_in (Err a) ≡ ask_binding qs c)
     unfolding repeats_as
@@ -185,17 +175,17 @@ module _ (spec : List ℕ) (l : ParametersSpec) (cells area : List ℕ) (h : Hea
         go : (o : Option ℕ) → first_named sources 0 next ≡ o → refused_at o (λ i. RepeatedParameter (get_or l.params.names i 0)) ≡ Err a → (refusing (Err a) ≡ true) × (answer_in (Err a) ≡ ask_binding qs c)
         go (some i) f g =
             let same : RepeatedParameter (get_or l.params.names i 0) ≡ a = cc in
-            subst (λ x. (refusing (Err x) ≡ true) × (answer_in (Err x) ≡ ask_binding qs c)) same (refl, asked_repeated (iterable_of u star) sources rest before r i f)
+            subst (λ x. (refusing (Err x) ≡ true) × (answer_in (Err x) ≡ ask_binding qs c)) same (refl, asked_repeated (iterable_of star) sources rest before r i f)
         go none f g = absurd cc
 
     -- where neither refuses, 17 to 24 are left
-    pub asked_names : (v : Unit) → repeats_as l.params next sources ≡ Ok v → ask_after_names qs c ≡ ask_binding qs c
+    pub asked_names : {v : Unit} → repeats_as l.params next sources ≡ Ok v → ask_after_names qs c ≡ ask_binding qs c
     unfolding repeats_as
-    asked_names v = go (first_named sources 0 next) refl
+    asked_names {v} = go (first_named sources 0 next) refl
       where
         go : (o : Option ℕ) → first_named sources 0 next ≡ o → refused_at o (λ i. RepeatedParameter (get_or l.params.names i 0)) ≡ Ok v → ask_after_names qs c ≡ ask_binding qs c
         go (some i) f g = absurd cc
-        go none f g = sym (repeats (iterable_of u star) sources rest before r none f)
+        go none f g = sym (repeats (iterable_of star) sources rest before r none f)
 
   -- ---- 17 to 19
 
@@ -203,7 +193,7 @@ module _ (spec : List ℕ) (l : ParametersSpec) (cells area : List ℕ) (h : Hea
   unfolding ask_after_names
   asked_double e = rw (ready.double, eq-eqb h.double_kind 2 e)
 
-  module _ (dictionary : h.double_kind ≡ 2 → ⊥) (sources rest : List ℕ) (r : Result ℕ EntryRefusal) (done : EntriesDone spec l cells area h next sources rest r) where
+  module _ (dictionary : h.double_kind ≡ 2 → ⊥) {sources rest : List ℕ} {r : Result ℕ EntryRefusal} (done : EntriesDone spec l cells area h next sources rest r) where
     entries_asked : entries_answer r ≡ ask_entries qs P c.named (entries_of c.double)
     entries_asked = done.answer P ready.upto ∙ sym (ap₂ (ask_entries qs P) ready.written ready.entries)
 
@@ -220,7 +210,7 @@ module _ (spec : List ℕ) (l : ParametersSpec) (cells area : List ℕ) (h : Hea
 
     -- ---- 20 to 24
 
-    module _ (count : ℕ) (all : r ≡ Ok count) where
+    module _ {count : ℕ} (all : r ≡ Ok count) where
       named_are : written_names area cells h ++ pairs_from area cells (entries_from h) h.d ≡ named_of c
       unfolding named_of
       named_are =
@@ -243,13 +233,13 @@ module _ (spec : List ℕ) (l : ParametersSpec) (cells area : List ℕ) (h : Hea
             ready.few.few_d,
           )
 
-      pub judged_placed : (judged : Result ℕ Refusal) → judged ≡ placed_as l cells h next sources rest count → Judging qs c cells area (ask_after_names qs c) sources rest judged
-      judged_placed judged is =
+      pub judged_placed : {judged : Result Unit Refusal} → judged ≡ placed_as l cells h next sources rest count → Judging qs c cells area (ask_after_names qs c) sources rest (with_count judged count)
+      judged_placed {judged} is =
           record {
             answer =
-                ap judged_answer is
+                ap (λ r. judged_answer (with_count r count)) is
                 ∙ placed_asked spec l ready.list cells area P (named_of c) sources rest count next ready.upto all_resolved few_kept h ready.values ready.long
                 ∙ sym (after_double ∙ ap (λ x. entries_answer x then ask_placed qs P (named_of c)) all);
-            refusal = ap refusing is ∙ placed_refusing l cells h next sources rest count;
-            resolved = λ n e. subst (λ m. Resolved qs cells area (named_of c) sources rest m) (placed_count l cells h next sources rest count n (sym is ∙ e)) all_resolved;
+            refusal = ap (λ r. refusing (with_count r count)) is ∙ placed_refusing l cells h next sources rest count;
+            resolved = λ n e. subst (λ m. Resolved qs cells area (named_of c) sources rest m) (counted_is judged count n e) all_resolved;
           }

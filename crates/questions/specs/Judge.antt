@@ -26,7 +26,7 @@ missing_as (suc zero) name = Missing name
 missing_as (suc (suc style)) name = MissingNamedOnly name
 
 -- the refusal of a question; where there is none, what comes after it says
-abbrev pub first_of : Result Unit Refusal → Result ℕ Refusal → Result ℕ Refusal
+abbrev pub first_of : Result Unit Refusal → Result Unit Refusal → Result Unit Refusal
 first_of (Ok _) second = second
 first_of (Err a) second = Err a
 
@@ -58,10 +58,10 @@ unfoldable pub surplus_as : DefParamIndices → Head → Result Unit Refusal
 surplus_as indices h =
     cond (lost_to (h.p + h.s) indices.num_positional (index_of indices.args)) (Err (ExtraPositionalArg (h.p + h.s - indices.num_positional))) (Ok tt)
 
--- 20 to 24, the last of them first (02, §4); where none refuses, how many pairs the named remainder has
-unfoldable pub placed_as : ParametersSpec → List ℕ → Head → ℕ → List ℕ → List ℕ → ℕ → Result ℕ Refusal
+-- 20 to 24, the last of them first (02, §4)
+unfoldable pub placed_as : ParametersSpec → List ℕ → Head → ℕ → List ℕ → List ℕ → ℕ → Result Unit Refusal
 placed_as l cells h next sources rest count =
-    first_of (unknown_as l.indices cells rest count) (first_of (required_as l.params next sources) (first_of (surplus_as l.indices h) (Ok count)))
+    first_of (unknown_as l.indices cells rest count) (first_of (required_as l.params next sources) (surplus_as l.indices h))
 
 pub record PlacedReady (l : ParametersSpec) (h : Head) : Type 0 where
   pub room : l.params.len ≤ 64

@@ -14,10 +14,10 @@ ghost use Rattle.builder.specs.Spec.{index_of};
 use answers::answer::Refusal;
 use builder::params::Parameters;
 use builder::spec::{DefParamIndices, ParametersSpec};
-use calls::head::Head;
+use calls::head::{Call, Head};
 use cells::record::pair_at;
-use findings::found::{first_missing, first_named};
-use findings::resolve::NAMED;
+use findings::found::first_missing;
+use findings::resolve::Resolution;
 
 // The refusal for a required parameter that is given nothing, by how it could have been given.
 #[tactic(auto, using(crate::proofs::LawsJudge::missing_other))]
@@ -51,38 +51,25 @@ pub(crate) fn ask_star(h: Head) -> Result<(), Refusal>
 
 // 16: no slot is filled by position and by a written name.
 #[tactic(auto, using(crate::proofs::LawsJudge::named_within), unfolding(crate::specs::Judge::repeats_as))]
-pub(crate) fn ask_repeats(
-    params: &Parameters,
-    next: usize,
-    sources: &[usize; 64],
-) -> Result<(), Refusal>
-    requires { next ≤ 64 }
-    ensures { result ≡ repeats_as params.now next sources.now }
+pub(crate) fn ask_repeats(params: &Parameters, resolved: &Resolution) -> Result<(), Refusal>
+    requires { resolved.now.next ≤ 64 }
+    ensures { result ≡ repeats_as params.now resolved.now.next resolved.now.sources }
 {
-    match first_named(sources, next) {
+    match resolved.first_named() {
         Some(i) => Err(Refusal::RepeatedParameter(params.names[i])),
         None => Ok(()),
     }
 }
 
-// 20 to 24, of names that are resolved: what is unknown, what is missing, what is left over. The named remainder has `count` pairs.
+// 20 to 24, of names that are resolved: what is unknown, what is missing, what is left over.
 #[tactic(auto, unfolding(crate::specs::Judge::placed_as))]
-pub fn ask_placed(
-    list: &ParametersSpec,
-    cells: &[u64],
-    h: Head,
-    next: usize,
-    sources: &[usize; 64],
-    rest: &[usize; NAMED],
-    count: usize,
-) -> Result<usize, Refusal>
-    requires { PlacedReady list.now (head_of h) }
-    ensures { result ≡ placed_as list.now cells.now (head_of h) next sources.now rest.now count }
+pub fn ask_placed(list: &ParametersSpec, call: &Call, resolved: &Resolution) -> Result<(), Refusal>
+    requires { PlacedReady list.now (head_of call.now.head) }
+    ensures { result ≡ placed_as list.now call.now.cells.now (head_of call.now.head) resolved.now.next resolved.now.sources resolved.now.rest resolved.now.count }
 {
-    ask_unknown(list.indices, cells, rest, count)?;
-    ask_required(&list.params, next, sources)?;
-    ask_surplus(list.indices, h)?;
-    Ok(count)
+    ask_unknown(list.indices, call.cells, resolved)?;
+    ask_required(&list.params, resolved)?;
+    ask_surplus(list.indices, call.head)
 }
 
 // 24: names of no parameter have **kwargs to go to.
@@ -90,13 +77,13 @@ pub fn ask_placed(
 fn ask_unknown(
     indices: DefParamIndices,
     cells: &[u64],
-    rest: &[usize; NAMED],
-    count: usize,
+    resolved: &Resolution,
 ) -> Result<(), Refusal>
-    ensures { result ≡ unknown_as indices cells.now rest.now count }
+    ensures { result ≡ unknown_as indices cells.now resolved.now.rest resolved.now.count }
 {
+    let count = resolved.count;
     if lost(count, 0, indices.kwargs) {
-        let key = pair_at(cells, rest[0]);
+        let key = pair_at(cells, resolved.rest[0]);
         return Err(Refusal::ExtraNamedArg(count, key.payload));
     }
     Ok(())
@@ -104,11 +91,11 @@ fn ask_unknown(
 
 // 20 to 22: each required parameter is given something.
 #[tactic(auto, using(crate::proofs::LawsJudge::missing_within), unfolding(crate::specs::Judge::required_as))]
-fn ask_required(params: &Parameters, next: usize, sources: &[usize; 64]) -> Result<(), Refusal>
+fn ask_required(params: &Parameters, resolved: &Resolution) -> Result<(), Refusal>
     requires { params.now.len ≤ 64 }
-    ensures { result ≡ required_as params.now next sources.now }
+    ensures { result ≡ required_as params.now resolved.now.next resolved.now.sources }
 {
-    match first_missing(params, sources, next) {
+    match first_missing(params, &resolved.sources, resolved.next) {
         Some(i) => Err(missing(params.styles[i], params.names[i])),
         None => Ok(()),
     }

@@ -20,7 +20,7 @@ pub enum ReadError {
 
 // What a read answers, and the position where it leaves the reader. The answer is the two cells of a filled slot, as they stand there; none for an
 // optional value whose slot is empty.
-#[derive(Clone, Copy)]
+#[derive(Clone, Copy, Debug, PartialEq, Eq)]
 pub struct Reading {
     pub next: Result<Option<Pair>, ReadError>,
     pub at: usize,

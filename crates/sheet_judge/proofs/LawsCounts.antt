@@ -16,8 +16,9 @@ use Rattle.rules.specs.SheetRows.{is_empty, is_value, step_right, parameter_row_
 use Rattle.rules.specs.SheetRecords.{kind_by}
 use Rattle.rules.proofs.LawsListing.{and_right, same_test, tally_append}
 use Rattle.rules.proofs.LawsSheetRows.{one_before, CallRows}
-use Rattle.sheet_judge.specs.Counts.{parameter_fits, counts_of, fits_as, fits, more_as, more, Few}
-use Rattle.sheet_judge.specs.declared.counts.Counts.{Counts}
+use Rattle.sheet_judge.specs.Counts.{parameter_fits, counts_of, fits_as, fits, more_as, more}
+use Rattle.calls.specs.Head.{head_of, Few}
+use Rattle.calls.specs.declared.head.Head.{Head}
 
 -- ---- the parameter sheet
 
@@ -61,7 +62,7 @@ none_kind part is_one (r ∷ rs) = go (is_part part r) (is_one r.value) (none_ki
 -- ---- a row behind others
 
 module _ (B : ℕ) (rows : List Row) (h : CallRows B rows) where
-  pub counts_few : Few B (counts_of rows)
+  pub counts_few : Few B (head_of (counts_of rows))
   unfolding counts_of
   counts_few = record { few_p = h.few positional; few_n = h.few named; few_s = h.few item; few_d = h.few entry }
 
@@ -111,7 +112,7 @@ module _ (rows : List Row) (r : Row) (q : CallPart) (e : call_part r.part ≡ q)
         go false o (suc n) first = rw (ne_eqb (suc n) 0 (λ p. omega arith))
 
 -- what a right row says: a star was not there before
-new_star : (B : ℕ) (k : Counts) (r : Row) (q : CallPart) → fits_as B k q r.name r.value ≡ true → eqb (part_number q) (part_number star) ≡ true
+new_star : (B : ℕ) (k : Head) (r : Row) (q : CallPart) → fits_as B k q r.name r.value ≡ true → eqb (part_number q) (part_number star) ≡ true
     → eqb k.star_kind 0 ≡ true
 new_star B k r positional h p = absurd (false≢true p)
 new_star B k r named h p = absurd (false≢true p)
@@ -121,7 +122,7 @@ new_star B k r double h p = absurd (false≢true p)
 new_star B k r entry h p = absurd (false≢true p)
 new_star B k r unknown_part h p = absurd (false≢true p)
 
-new_double : (B : ℕ) (k : Counts) (r : Row) (q : CallPart) → fits_as B k q r.name r.value ≡ true → eqb (part_number q) (part_number double) ≡ true
+new_double : (B : ℕ) (k : Head) (r : Row) (q : CallPart) → fits_as B k q r.name r.value ≡ true → eqb (part_number q) (part_number double) ≡ true
     → eqb k.double_kind 0 ≡ true
 new_double B k r positional h p = absurd (false≢true p)
 new_double B k r named h p = absurd (false≢true p)
@@ -132,7 +133,7 @@ new_double B k r entry h p = absurd (false≢true p)
 new_double B k r unknown_part h p = absurd (false≢true p)
 
 -- the counts as the row's part makes them
-counts_with : CallPart → List Row → Row → Counts
+counts_with : CallPart → List Row → Row → Head
 counts_with q rows r =
     record {
       p = tally_with q positional (tally (is_part positional) rows);

@@ -4,8 +4,7 @@
 use mathlib.Core.Path.{◌≡◌, refl, sym, ap, ◌∙◌, subst}
 use mathlib.Core.Bool.{false}
 use mathlib.Core.List.{List, [], ◌∷◌, ◌++◌, map}
-use Prim.Native.Nat.{ℕ, suc, ◌+◌, ◌≤◌, ◌<◌}
-use native.Mathlib.Numerals.{add-one}
+use Prim.Native.Nat.{ℕ, ◌+◌, ◌≤◌, ◌<◌}
 use native.Mathlib.Omega.{arith}
 use lib.ListN.{length, take, drop, length-append}
 use lib.Seq.{take_at}
@@ -14,15 +13,13 @@ use Rattle.std.specs.Option.{ok_or}
 use Rattle.rules.specs.SheetLines as rules
 use Rattle.rules.specs.SheetRows.{parameter_row_right, call_row_right}
 use Rattle.rules.specs.SheetInput.{right, bad, judge_rows, rows_of, call_lines, input_most, judge_input}
-use Rattle.sheet_lines.specs.Piece.{piece, PieceEnd}
+use Rattle.sheet_lines.specs.Lines.{LineAt, NoLine}
 use Rattle.sheet_lines.specs.Header.{columns_of, ColumnsRead}
 use Rattle.sheet_lines.specs.declared.header.Columns.{Columns}
-use Rattle.sheet_lines.proofs.LawsPiece.{piece_front}
-use Rattle.sheet_lines.proofs.LawsLines.{lines_next, lines_end, unended_next}
 use Rattle.sheet_judge.specs.Sheets.{judge_parameters, judge_call}
 use Rattle.sheet_judge.specs.Read.{StepsAre, StepsRead, ParametersAre, ParametersRead, ValuesAre, ValuesRead, CallIs, CallRead}
 use Rattle.sheet_judge.specs.Judged.{places_of, PlacesAre, Judging}
-use Rattle.sheet_judge.specs.declared.counts.Counts.{Counts}
+use Rattle.calls.specs.declared.head.Head.{Head}
 use Rattle.sheet_judge.specs.declared.parameters.ParameterPlaces.{ParameterPlaces}
 use Rattle.sheet_judge.specs.declared.parameters.Steps.{Steps}
 use Rattle.sheet_judge.specs.declared.call.CallPlaces.{CallPlaces}
@@ -38,73 +35,68 @@ refused (Some x) line e = cc
 
 -- ---- the parameter sheet
 
-module _ {input : List ℕ} {end : ℕ} (found : PieceEnd 10 input 0 (length input) end) where
-  pub parameters_missing : end ≡ length input → judge_parameters 64 (rules.lines_in input) ≡ bad 30 1
-  parameters_missing h = ap (judge_parameters 64) (lines_end found h) ∙ parameters_none 64
+module _ {input : List ℕ} where
+  pub parameters_missing : NoLine input 0 → judge_parameters 64 (rules.lines_in input) ≡ bad 30 1
+  parameters_missing none = ap (judge_parameters 64) none.lines ∙ parameters_none 64
 
-  module _ (h : end < length input) where
-    -- the first line, and those behind it
-    first_line : rules.lines_in input ≡ take end input ∷ rules.lines_in (drop (suc end) input)
-    first_line = rw piece_front at (lines_next found h)
+  module _ {line : List ℕ} {behind : ℕ} (r : LineAt input 0 line behind) where
+    pub parameters_wrong : rules.header_right line ≡ false → judge_parameters 64 (rules.lines_in input) ≡ bad 30 1
+    parameters_wrong e = ap (judge_parameters 64) r.lines ∙ parameters_header 64 line (rules.lines_in (drop behind input)) e
 
-    pub parameters_wrong : rules.header_right (take end input) ≡ false → judge_parameters 64 (rules.lines_in input) ≡ bad 30 1
-    parameters_wrong e =
-        ap (judge_parameters 64) first_line ∙ parameters_header 64 (take end input) (rules.lines_in (drop (suc end) input)) e
+    module _ {columns : Columns} (read : ColumnsRead line columns) where
+      pub parameters_bad : (wrong : BadLine) → StepsRead (columns_of columns) input behind (Err wrong)
+          → judge_parameters 64 (rules.lines_in input) ≡ bad 30 wrong.0
+      parameters_bad wrong rows =
+          ap (judge_parameters 64) r.lines
+          ∙ parameters_steps 64 line (rules.lines_in (drop behind input)) read.told
+          ∙ rw (← read.columns) rows
 
-    module _ {columns : Columns} (read : ColumnsRead (take end input) columns) where
-      pub parameters_bad : (line : BadLine) → StepsRead (columns_of columns) input (end + 1) (Err line)
-          → judge_parameters 64 (rules.lines_in input) ≡ bad 30 line.0
-      parameters_bad line behind =
-          ap (judge_parameters 64) first_line
-          ∙ parameters_steps 64 (take end input) (rules.lines_in (drop (suc end) input)) read.told
-          ∙ rw (← read.columns, ← add-one end) behind
-
-      pub parameters_right : (steps : Steps) → StepsAre (columns_of columns) input (end + 1) steps.rows steps.next
-          → ParametersAre input (record { columns = columns; from = end + 1; rows = steps.rows; next = steps.next })
-      parameters_right steps behind =
+      pub parameters_right : (steps : Steps) → StepsAre (columns_of columns) input behind steps.rows steps.next
+          → ParametersAre input (record { columns = columns; from = behind; rows = steps.rows; next = steps.next })
+      parameters_right steps rows =
           record {
-            header = take end input;
-            parted = rw (add-one end) first_line;
-            rest = rw (add-one end) (unended_next found h);
+            header = line;
+            parted = r.lines;
+            rest = r.rest;
             header_right = read.told;
             columns = read.columns;
             below = read.below;
-            within = omega arith;
-            steps = behind;
+            within = r.within;
+            steps = rows;
           }
 
 -- ---- the call sheet
 
-module _ {input : List ℕ} {at end : ℕ} (line : ℕ) (found : PieceEnd 10 input at (length input) end) where
-  pub call_missing : end ≡ length input → judge_call 64 line (rules.lines_in (drop at input)) (rules.unended (drop at input)) ≡ bad 30 line
-  call_missing h = rw (lines_end found h) (call_none 64 line (rules.unended (drop at input)))
+module _ {input : List ℕ} {at : ℕ} (first : ℕ) where
+  pub call_missing : NoLine input at → judge_call 64 first (rules.lines_in (drop at input)) (rules.unended (drop at input)) ≡ bad 30 first
+  call_missing none = rw none.lines (call_none 64 first (rules.unended (drop at input)))
 
-  module _ (h : end < length input) where
-    pub call_wrong : rules.header_right (piece input at end) ≡ false → judge_call 64 line (rules.lines_in (drop at input)) (rules.unended (drop at input)) ≡ bad 30 line
+  module _ {line : List ℕ} {behind : ℕ} (r : LineAt input at line behind) where
+    pub call_wrong : rules.header_right line ≡ false → judge_call 64 first (rules.lines_in (drop at input)) (rules.unended (drop at input)) ≡ bad 30 first
     call_wrong e =
-        rw (lines_next found h)
-        (call_header 64 line (piece input at end) (rules.lines_in (drop (suc end) input)) (rules.unended (drop at input)) e)
+        rw r.lines
+        (call_header 64 first line (rules.lines_in (drop behind input)) (rules.unended (drop at input)) e)
 
-    module _ {columns : Columns} (read : ColumnsRead (piece input at end) columns) where
-      pub call_bad : (wrong : BadLine) → ValuesRead (columns_of columns) input (end + 1) (line + 1) (Err wrong)
-          → judge_call 64 line (rules.lines_in (drop at input)) (rules.unended (drop at input)) ≡ bad 30 wrong.0
-      call_bad wrong behind =
-          rw (lines_next found h, unended_next found h)
-          (call_values 64 line (piece input at end) (rules.lines_in (drop (suc end) input)) (rules.unended (drop (suc end) input)) read.told
-          ∙ rw (← read.columns, ← add-one end) behind)
+    module _ {columns : Columns} (read : ColumnsRead line columns) where
+      pub call_bad : (wrong : BadLine) → ValuesRead (columns_of columns) input behind (first + 1) (Err wrong)
+          → judge_call 64 first (rules.lines_in (drop at input)) (rules.unended (drop at input)) ≡ bad 30 wrong.0
+      call_bad wrong rows =
+          rw (r.lines, r.rest)
+          (call_values 64 first line (rules.lines_in (drop behind input)) (rules.unended (drop behind input)) read.told
+          ∙ rw (← read.columns) rows)
 
-      pub call_right : (k : Counts) → ValuesAre (columns_of columns) input (end + 1) (line + 1) k
-          → CallIs input at line (record { columns = columns; from = end + 1; counts = k })
-      call_right k behind =
+      pub call_right : (k : Head) → ValuesAre (columns_of columns) input behind (first + 1) k
+          → CallIs input at first (record { columns = columns; from = behind; counts = k })
+      call_right k rows =
           record {
-            header = piece input at end;
-            parted = rw (add-one end) (lines_next found h);
-            rest = rw (add-one end) (unended_next found h);
+            header = line;
+            parted = r.lines;
+            rest = r.rest;
             header_right = read.told;
             columns = read.columns;
             below = read.below;
-            within = omega arith;
-            values = behind;
+            within = r.within;
+            values = rows;
           }
 
 -- ---- the input

@@ -1,19 +1,17 @@
 -- Lines of an input that a loop has passed (01, sheets): the rows of a sheet from `from` on, each of them right, up to `at`. `passed_none`
--- and `passed_next` are how a loop begins and goes on; `passed_left` says which lines there are if one more is found, `passed_all` if the search
--- ends with the input, `passed_end` if the input is at its end.
+-- and `passed_next` are how a loop begins and goes on; `passed_left` says which lines there are if one more is read, `passed_all` if none is left,
+-- `passed_end` if the input is at its end.
 -- Assumes nothing.
 use mathlib.Core.Path.{◌≡◌, refl, sym, ap, ◌∙◌}
 use mathlib.Core.Bool.{Bool, true}
 use mathlib.Core.List.{List, [], ◌∷◌, ◌++◌, map, append-nil}
-use Prim.Native.Nat.{ℕ, suc, ◌+◌, ◌≤◌, ◌<◌}
-use native.Mathlib.Numerals.{add-one}
+use Prim.Native.Nat.{ℕ, ◌+◌, ◌≤◌}
 use native.Mathlib.Omega.{arith}
 use lib.ListN.{length, drop, length-append}
 use lib.Seq.{append_snoc, drop-length}
 use Rattle.rules.specs.SheetLines.{lines_in, unended, Columns, Row, row_in}
 use Rattle.rules.specs.SheetInput.{right, judge_rows}
-use Rattle.sheet_lines.specs.Piece.{piece, PieceEnd}
-use Rattle.sheet_lines.proofs.LawsLines.{lines_next, lines_end, unended_next}
+use Rattle.sheet_lines.specs.Lines.{LineAt, NoLine}
 use Rattle.sheet_judge.proofs.LawsRows.{line_right, rows_more}
 
 -- `first` is the number of the first line passed, `next` that of the line at `at`
@@ -32,26 +30,23 @@ module _ (row_right : List Row → Row → Bool) (c : Columns) (input : List ℕ
       record { lines = []; parted = refl; rest = refl; judged = refl; many = omega arith; within = h; gone = omega arith }
 
 module _ {row_right : List Row → Row → Bool} {c : Columns} {input : List ℕ} {first from next at : ℕ} (p : Passed row_right c input first from next at) where
-  module _ {end : ℕ} (found : PieceEnd 10 input at (length input) end) where
-    pub passed_left : end < length input → lines_in (drop from input) ≡ p.lines ++ piece input at end ∷ lines_in (drop (suc end) input)
-    passed_left h = p.parted ∙ ap (λ l. p.lines ++ l) (lines_next found h)
+  pub passed_all : NoLine input at → lines_in (drop from input) ≡ p.lines
+  passed_all none = p.parted ∙ ap (λ l. p.lines ++ l) none.lines ∙ append-nil p.lines
 
-    pub passed_all : end ≡ length input → lines_in (drop from input) ≡ p.lines
-    passed_all h = p.parted ∙ ap (λ l. p.lines ++ l) (lines_end found h) ∙ append-nil p.lines
+  module _ {line : List ℕ} {behind : ℕ} (r : LineAt input at line behind) where
+    pub passed_left : lines_in (drop from input) ≡ p.lines ++ line ∷ lines_in (drop behind input)
+    passed_left = p.parted ∙ ap (λ l. p.lines ++ l) r.lines
 
-    unfoldable pub passed_next : end < length input → line_right row_right c (map (row_in c) p.lines) (piece input at end) ≡ true
-        → Passed row_right c input first from (next + 1) (end + 1)
-    passed_next h e =
+    unfoldable pub passed_next : line_right row_right c (map (row_in c) p.lines) line ≡ true → Passed row_right c input first from (next + 1) behind
+    passed_next e =
         record {
-          lines = p.lines ++ (piece input at end ∷ []);
-          parted =
-              passed_left h
-              ∙ rw (add-one end) (sym (append_snoc p.lines (piece input at end) (lines_in (drop (suc end) input))));
-          rest = p.rest ∙ rw (add-one end) (unended_next found h);
-          judged = rows_more row_right c first p.lines (piece input at end) p.judged e;
-          many = omega (arith, p.many, length-append p.lines (piece input at end ∷ []));
-          within = omega arith;
-          gone = omega (arith, found.after, p.gone, length-append p.lines (piece input at end ∷ []));
+          lines = p.lines ++ (line ∷ []);
+          parted = passed_left ∙ sym (append_snoc p.lines line (lines_in (drop behind input)));
+          rest = p.rest ∙ r.rest;
+          judged = rows_more row_right c first p.lines line p.judged e;
+          many = omega (arith, p.many, length-append p.lines (line ∷ []));
+          within = r.within;
+          gone = omega (arith, r.width, p.gone, length-append p.lines (line ∷ []));
         }
 
   pub passed_end : length input ≤ at → lines_in (drop from input) ≡ p.lines

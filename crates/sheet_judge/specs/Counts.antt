@@ -1,11 +1,11 @@
 -- Rows of a call in counts (01, sheets): what a row asks of the rows before it, and what it adds to them.
 -- B is the number of values that each part of a call may have.
-use Rattle.std.specs.Prelude.{Bool, false, cond, ◌&&◌, ◌||◌, List, ℕ, ◌+◌, ◌≤◌, ltb, eqb}
+use Rattle.std.specs.Prelude.{Bool, false, cond, ◌&&◌, ◌||◌, List, ℕ, ◌+◌, ltb, eqb}
 use Rattle.rules.specs.Listing.{tally}
 use Rattle.rules.specs.SheetLines.{Row}
 use Rattle.rules.specs.SheetRows.{is_empty, is_value, is_def, step_right, CallPart, positional, named, star, item, double, entry, unknown_part, call_part, is_part, is_list, is_dict, is_other}
 use Rattle.rules.specs.SheetRecords.{kind_by}
-use Rattle.sheet_judge.specs.declared.counts.Counts.{Counts}
+use Rattle.calls.specs.declared.head.Head.{Head}
 
 -- ---- the parameter sheet
 
@@ -15,7 +15,7 @@ parameter_fits A before r = cond (eqb before 0) (is_def r && is_empty r.value) (
 
 -- ---- the call sheet
 
-unfoldable pub counts_of : List Row → Counts
+unfoldable pub counts_of : List Row → Head
 counts_of rows =
     record {
       p = tally (is_part positional) rows;
@@ -27,7 +27,7 @@ counts_of rows =
     }
 
 -- may a row of a part, with this name and this value, stand behind rows of these counts?
-abbrev pub fits_as : ℕ → Counts → CallPart → List ℕ → List ℕ → Bool
+abbrev pub fits_as : ℕ → Head → CallPart → List ℕ → List ℕ → Bool
 fits_as B k positional name value = is_empty name && is_value value && ltb k.p B
 fits_as B k named name value = is_value value && ltb k.n B
 fits_as B k star name value = is_empty name && (is_list value || is_other value) && eqb k.star_kind 0
@@ -36,11 +36,11 @@ fits_as B k double name value = is_empty name && (is_dict value || is_other valu
 fits_as B k entry name value = is_value name && is_value value && eqb k.double_kind 1 && ltb k.d B
 fits_as B k unknown_part name value = false
 
-unfoldable pub fits : ℕ → Counts → Row → Bool
+unfoldable pub fits : ℕ → Head → Row → Bool
 fits B k r = fits_as B k (call_part r.part) r.name r.value
 
 -- the counts with such a row more
-abbrev pub more_as : Counts → CallPart → List ℕ → Counts
+abbrev pub more_as : Head → CallPart → List ℕ → Head
 more_as k positional value = record { p = k.p + 1; n = k.n; star_kind = k.star_kind; s = k.s; double_kind = k.double_kind; d = k.d }
 more_as k named value = record { p = k.p; n = k.n + 1; star_kind = k.star_kind; s = k.s; double_kind = k.double_kind; d = k.d }
 more_as k star value = record { p = k.p; n = k.n; star_kind = cond (is_list value) 1 2; s = k.s; double_kind = k.double_kind; d = k.d }
@@ -49,12 +49,5 @@ more_as k double value = record { p = k.p; n = k.n; star_kind = k.star_kind; s =
 more_as k entry value = record { p = k.p; n = k.n; star_kind = k.star_kind; s = k.s; double_kind = k.double_kind; d = k.d + 1 }
 more_as k unknown_part value = k
 
-unfoldable pub more : Counts → Row → Counts
+unfoldable pub more : Head → Row → Head
 more k r = more_as k (call_part r.part) r.value
-
--- no part has more than B
-pub record Few (B : ℕ) (k : Counts) : Type 0 where
-  pub few_p : k.p ≤ B
-  pub few_n : k.n ≤ B
-  pub few_s : k.s ≤ B
-  pub few_d : k.d ≤ B

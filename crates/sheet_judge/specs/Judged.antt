@@ -5,7 +5,8 @@ use Rattle.rules.specs.SheetLines as rules
 use Rattle.rules.specs.SheetInput.{Verdict, right, bad, rows_of, parameter_lines, call_lines, judge_input}
 use Rattle.sheet_lines.specs.Header.{columns_of, Below}
 use Rattle.sheet_lines.specs.declared.header.Columns.{Columns}
-use Rattle.sheet_judge.specs.Counts.{counts_of, Few}
+use Rattle.calls.specs.Head.{head_of, Few}
+use Rattle.sheet_judge.specs.Counts.{counts_of}
 use Rattle.sheet_judge.specs.declared.parameters.ParameterPlaces.{ParameterPlaces}
 use Rattle.sheet_judge.specs.declared.call.CallPlaces.{CallPlaces}
 use Rattle.sheet_judge.specs.declared.Places.{Places}
@@ -61,7 +62,7 @@ pub record PlacesAre (input : List ℕ) (p : Places) : Type 0 where
   pub call_three : all three_in (call_rows input p) ≡ true
   pub call_are : rows_of (call_lines input) ≡ map (rules.row_in (columns_of p.call)) (call_rows input p)
   pub counts_are : p.counts ≡ counts_of (rows_of (call_lines input))
-  pub counts_few : Few 64 p.counts
+  pub counts_few : Few 64 (head_of p.counts)
 
 -- the verdict over an input, and where its sheets stand if it is well formed
 pub record Judging (input : List ℕ) (r : Result Places BadLine) : Type 0 where

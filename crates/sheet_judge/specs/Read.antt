@@ -3,10 +3,10 @@ use Rattle.std.specs.Prelude.{Option, Some, None, Result, Ok, Err, ◌≡◌, Bo
 use Rattle.rules.specs.SheetLines as rules
 use Rattle.rules.specs.SheetRows.{is_empty, parameter_row_right, call_row_right}
 use Rattle.rules.specs.SheetInput.{right, bad, judge_rows}
+use Rattle.calls.specs.declared.head.Head.{Head}
 use Rattle.sheet_lines.specs.Header.{columns_of, Below}
 use Rattle.sheet_judge.specs.Counts.{parameter_fits, counts_of, fits, more}
 use Rattle.sheet_judge.specs.Sheets.{judge_parameters, judge_steps, judge_call, judge_values}
-use Rattle.sheet_judge.specs.declared.counts.Counts.{Counts}
 use Rattle.sheet_judge.specs.declared.parameters.ParameterPlaces.{ParameterPlaces}
 use Rattle.sheet_judge.specs.declared.parameters.Steps.{Steps}
 use Rattle.sheet_judge.specs.declared.BadLine.{BadLine}
@@ -51,19 +51,19 @@ ParametersRead input (Err line) = judge_parameters 64 (rules.lines_in input) ≡
 -- ---- the call sheet
 
 -- a line behind rows of these counts, and the counts with it
-abbrev pub line_counts : rules.Columns → Counts → List ℕ → Bool
+abbrev pub line_counts : rules.Columns → Head → List ℕ → Bool
 line_counts c k line = rules.three_cells (rules.cells_in line) && fits 64 k (rules.row_in c line)
 
-unfoldable pub counted_in : rules.Columns → Counts → List ℕ → Option Counts
+unfoldable pub counted_in : rules.Columns → Head → List ℕ → Option Head
 counted_in c k line = cond (line_counts c k line) (Some (more k (rules.row_in c line))) None
 
 -- right rows from `from` on, the first of them line `first`, with these counts, and nothing behind them
-pub record ValuesAre (c : rules.Columns) (input : List ℕ) (from first : ℕ) (k : Counts) : Type 0 where
+pub record ValuesAre (c : rules.Columns) (input : List ℕ) (from first : ℕ) (k : Head) : Type 0 where
   pub judged : judge_rows (call_row_right 64) c first [] (rules.lines_in (drop from input)) ≡ right
   pub ended : is_empty (rules.unended (drop from input)) ≡ true
   pub counts : k ≡ counts_of (map (rules.row_in c) (rules.lines_in (drop from input)))
 
-abbrev pub ValuesRead : rules.Columns → List ℕ → ℕ → ℕ → Result Counts BadLine → Type 0
+abbrev pub ValuesRead : rules.Columns → List ℕ → ℕ → ℕ → Result Head BadLine → Type 0
 ValuesRead c input from first (Ok k) = ValuesAre c input from first k
 ValuesRead c input from first (Err line) =
     judge_values 64 c first (rules.lines_in (drop from input)) (rules.unended (drop from input)) ≡ bad 30 line.0

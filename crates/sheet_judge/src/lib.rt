@@ -5,9 +5,10 @@ ghost use Rattle.std.specs.Prelude.{◌≡◌};
 ghost use Rattle.sheet_judge.specs.Judged.{places_of, Judging};
 
 use call::{CallPlaces, read_call};
-use counts::Counts;
+use calls::head::Head;
 use parameters::{ParameterPlaces, read_parameters};
 use sheet_lines::header::Columns;
+use sheet_lines::lines::Lines;
 
 pub mod call;
 pub mod counts;
@@ -28,7 +29,7 @@ pub struct Places {
     pub call: Columns,
     // Where the first row of the call sheet begins.
     pub call_rows: usize,
-    pub counts: Counts,
+    pub counts: Head,
 }
 
 // The line that breaks a rule, counted from 1; 0 of an input that is too long.
@@ -44,7 +45,8 @@ pub fn judge_input(input: &[u8]) -> Result<Places, BadLine>
         return Err(BadLine(0));
     }
     let p = read_parameters(input)?;
-    let c = read_call(input, p.next, p.rows + 3)?;
+    let call = Lines { input, at: p.next };
+    let c = read_call(call, p.rows + 3)?;
     Ok(places_of(p, c))
 }
 

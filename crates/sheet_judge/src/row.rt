@@ -6,7 +6,7 @@ ghost use Rattle.sheet_lines.specs.Row.{row_of};
 ghost use Rattle.sheet_lines.specs.Word.{call_part_of};
 ghost use Rattle.sheet_judge.specs.Counts.{parameter_fits, fits_as};
 
-use crate::counts::Counts;
+use calls::head::Head;
 use sheet_lines::row::Row;
 use sheet_lines::word::{CallPart, code_of, is_def, is_dict, is_list, is_other};
 use sheet_values::read::read_cell;
@@ -40,7 +40,7 @@ fn step_right(row: Row) -> bool
 }
 
 // A row of a call sheet behind rows of these counts.
-pub(crate) fn call_row_right(counts: Counts, part: CallPart, name: &[u8], value: &[u8]) -> bool
+pub(crate) fn call_row_right(counts: Head, part: CallPart, name: &[u8], value: &[u8]) -> bool
     ensures { result ≡ fits_as 64 counts (call_part_of part) name.now value.now }
 {
     match part {

@@ -1,7 +1,7 @@
 -- The lines of an input one by one (01, sheets), as a loop over them asks: where the search for byte 10 from `at` on ends before the
 -- input does, the next line is what it passed, and the lines behind it are those of what is left; where it ends with the input, there
 -- is no line any more, and what is left is ended by nothing. `lines_next` and `lines_end` say so of `lines_in`, `unended_next` and
--- `unended_end` of `unended`.
+-- `unended_end` of `unended`; and that a walk over lines yields those that are left (`lines_yielded`).
 -- Assumes nothing.
 use mathlib.Core.Path.{◌≡◌, refl, ap, ◌∙◌}
 use mathlib.Core.Bool.{Bool, true, false, cond}
@@ -12,7 +12,12 @@ use lib.Dec.{eqb}
 use lib.ListN.{length, drop, length-drop}
 use lib.Seq.{take_all}
 use Rattle.rules.specs.SheetLines.{before, split, front, last, lines_in, unended}
+use Rattle.std.specs.Borrow.{Bor}
+use Rattle.std.proofs.lemmas.Iterator.{YieldsList}
+use Rattle.std.proofs.lemmas.Iterator.Consumers.{YieldsList-from_shown}
 use Rattle.sheet_lines.specs.Piece.{piece, PieceEnd}
+use Rattle.sheet_lines.specs.Lines.{lines_left, NextLine}
+use Rattle.sheet_lines.specs.declared.lines.Lines.{Lines}
 use Rattle.sheet_lines.proofs.LawsPiece.{split_next, split_end}
 
 -- a piece that ends with the input
@@ -69,3 +74,8 @@ module _ {input : List ℕ} {at end : ℕ} (found : PieceEnd 10 input at (length
   pub unended_end : end ≡ length input → unended (drop at input) ≡ drop at input
   unfolding unended
   unended_end h = ap last (none_left h)
+
+-- a walk
+pub lines_yielded : (s : Lines) → YieldsList NextLine (λ (line : Bor (List ℕ)). line.now) s (lines_left s)
+lines_yielded =
+    YieldsList-from_shown NextLine (λ (line : Bor (List ℕ)). line.now) lines_left (λ s t h. ap length h.0.lines) (λ s line t h. rw h.1 h.0.lines)

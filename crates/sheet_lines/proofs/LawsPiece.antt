@@ -1,20 +1,19 @@
--- Pieces of an input and the first mark inside one (01, sheets), as a loop that looks for it asks: how long a piece is (`piece_length`) and
--- whether it is blank (`piece_blank`), one that begins the input (`piece_front`), a piece parted at an index, bytes without a mark and what `split` makes of them, where a search ends;
--- then what such an end says of the pieces (`split_next`, `split_end`). Lines are in LawsLines, the cells of a line in LawsCells.
+-- Pieces of an input and the first mark inside one (01, sheets), as a loop that looks for it asks: how long a piece is (`piece_length`), a piece
+-- parted at an index, bytes without a mark and what `split` makes of them, where a search ends; then what such an end says of the pieces
+-- (`split_next`, `split_end`). Lines are in LawsLines, the cells of a line in LawsCells.
 -- Assumes nothing.
-use mathlib.Core.Path.{◌≡◌, refl, sym, ap, ◌∙◌}
+use mathlib.Core.Path.{◌≡◌, refl, ap, ◌∙◌}
 use mathlib.Core.Bool.{Bool, true, not}
 use mathlib.Core.List.{List, [], ◌∷◌, ◌++◌}
 use Prim.Native.Nat.{ℕ, suc, ◌+◌, ◌-◌, ◌≤◌, ◌<◌}
 use native.Mathlib.Numerals.{add-one}
 use native.Mathlib.Omega.{arith}
 use lib.Dec.{eqb}
-use lib.ListN.{length, take, drop, get_or, length-drop}
+use lib.ListN.{length, drop, get_or, length-drop}
 use lib.Seq.{length-take-le, drop-cons, drop-drop, take-add}
 use borrow.Author.Tests.{eq-eqb, ne_eqb, lt-ltb, le-ltb}
 use Rattle.rules.specs.Listing.{all}
 use Rattle.rules.specs.SheetLines.{split}
-use Rattle.rules.specs.SheetRows.{is_empty}
 use Rattle.rules.proofs.LawsListing.{and_left, and_right, not_yes, all_append}
 use Rattle.sheet_lines.specs.Piece.{piece, behind, PieceEnd}
 
@@ -24,22 +23,9 @@ pub piece_empty : (input : List ℕ) (at : ℕ) → piece input at at ≡ []
 unfolding piece
 piece_empty input at = let e : at - at ≡ 0 = omega arith in rw e
 
--- one that begins the input
-pub piece_front : (input : List ℕ) (to : ℕ) → piece input 0 to ≡ take to input
-unfolding piece
-piece_front input to = let e : to - 0 ≡ to = omega arith in ap (λ n. take n input) e
-
 pub piece_length : (input : List ℕ) (from to : ℕ) → from ≤ to → to ≤ length input → length (piece input from to) ≡ to - from
 unfolding piece
 piece_length input from to h k = length-take-le (to - from) (drop from input) (simp length-drop (omega arith))
-
--- a blank line, an empty cell
-pub piece_blank : (input : List ℕ) (from to : ℕ) → from ≤ to → to ≤ length input → is_empty (piece input from to) ≡ eqb from to
-piece_blank input from to h k = go (piece input from to) (piece_length input from to h k)
-  where
-    go : (bytes : List ℕ) → length bytes ≡ to - from → is_empty bytes ≡ eqb from to
-    go [] e = sym (eq-eqb from to (omega arith))
-    go (b ∷ bs) e = sym (ne_eqb from to (λ f. omega arith))
 
 -- the bytes before an index, the byte there and those behind it
 pub piece_parted : (input : List ℕ) (from at to : ℕ) → from ≤ at → at < to → to ≤ length input

@@ -4,6 +4,7 @@
 
 pub mod header;
 pub mod line;
+pub mod lines;
 pub mod piece;
 pub mod row;
 pub mod word;

@@ -19,7 +19,8 @@ use Rattle.rules.proofs.LawsText.{payload_of_halves}
 use Rattle.rules.proofs.LawsDigits.{decimal_length}
 use Rattle.rules.proofs.LawsSheetOutput.{text_length, slot_name_length}
 use Rattle.sheet_output.proofs.LawsPrintable.{printable_length}
-use Rattle.cells.specs.Out.{Put}
+use Rattle.cells.specs.Out.{Wrote}
+use Rattle.cells.specs.declared.out.Cursor.{Cursor}
 use Rattle.cells.specs.Text.{text_of, read_text, part_at}
 use Rattle.cells.specs.Value.{value, pair_of, cells_of, real_of, value_as, value_of, well_formed_slot, read_slot}
 use Rattle.cells.specs.declared.text.Text.{Text}
@@ -27,7 +28,7 @@ use Rattle.cells.specs.declared.value.Value.{Value}
 use Rattle.cells.specs.declared.value.Value.TheVariants.{Real, Nan}
 use Rattle.std.specs.Prelude.{Some, None}
 use Rattle.cells.proofs.LawsValue.{default_cells, argument_cells}
-use Rattle.cells.proofs.LawsOut.{put_same, put_rest, put_then}
+use Rattle.cells.proofs.LawsOut.{wrote_same, wrote_room, wrote_both}
 use Rattle.builder.specs.Params.{kind_for}
 use Rattle.sheet_output.specs.Line.{shown_name, shown_value, shown_as, plain_code, name_for, shown_for}
 use Rattle.sheet_values.specs.Print.{Printable}
@@ -231,22 +232,17 @@ module _ (spec call : List ℕ) (kind payload : ℕ) where
 
 -- ---- cells behind each other
 
-pub put_both : (xs ys : List ℕ) (at : ℕ) (out : List ℕ) → at + length xs + length ys ≤ length out
-    → (held after : List ℕ) (next end : ℕ) → Put xs at out held next → Put ys next held after end → Put (xs ++ ys) at out after end
-put_both xs ys at out h held after next end p q = put_then xs ys at out (omega (arith, h, length-append xs ys)) held after next end p q
-
 line_cells : (a b c : List ℕ) → (a ++ (44 ∷ [])) ++ ((b ++ (44 ∷ [])) ++ (c ++ (10 ∷ []))) ≡ line a b c
 unfolding line
 line_cells a b c = simp append_assoc
 
-module _ (a b c : List ℕ) (at : ℕ) (out : List ℕ) (room : at + length a + length b + length c + 3 ≤ length out) where
-  fits : at + length ((a ++ (44 ∷ [])) ++ ((b ++ (44 ∷ [])) ++ (c ++ (10 ∷ [])))) ≤ length out
+-- three cells, each with the byte behind it
+module _ (a b c : List ℕ) (start : Cursor) (room : start.at + length a + length b + length c + 3 ≤ length start.out.now) where
+  fits : start.at + length (a ++ (44 ∷ [])) + length ((b ++ (44 ∷ [])) ++ (c ++ (10 ∷ []))) ≤ length start.out.now
   fits = simp length-append (omega (arith, room))
 
-  pub put_line : (second third after : List ℕ) (m n end : ℕ)
-      → Put (a ++ (44 ∷ [])) at out second m → Put (b ++ (44 ∷ [])) m second third n → Put (c ++ (10 ∷ [])) n third after end
-      → Put (line a b c) at out after end
-  put_line second third after m n end p q r =
-      put_same ((a ++ (44 ∷ [])) ++ ((b ++ (44 ∷ [])) ++ (c ++ (10 ∷ [])))) (line a b c) (line_cells a b c)
-      (put_then (a ++ (44 ∷ [])) ((b ++ (44 ∷ [])) ++ (c ++ (10 ∷ []))) at out fits second after m end p
-      (put_then (b ++ (44 ∷ [])) (c ++ (10 ∷ [])) m second (put_rest (a ++ (44 ∷ [])) ((b ++ (44 ∷ [])) ++ (c ++ (10 ∷ []))) at out fits second m p) third after n end q r))
+  pub wrote_line : {second third end : Cursor} → Wrote (a ++ (44 ∷ [])) start second → Wrote (b ++ (44 ∷ [])) second third → Wrote (c ++ (10 ∷ [])) third end → Wrote (line a b c) start end
+  wrote_line {second = second} w v u =
+      let behind : second.at + length ((b ++ (44 ∷ [])) ++ (c ++ (10 ∷ []))) ≤ length second.out.now = wrote_room _ _ _ w _ fits in
+      wrote_same _ _ (line_cells a b c)
+      (wrote_both _ _ _ w _ _ fits (wrote_both _ _ _ v _ _ (omega (arith, length-append (b ++ (44 ∷ [])) (c ++ (10 ∷ [])))) u))

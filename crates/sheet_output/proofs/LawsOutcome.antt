@@ -1,5 +1,5 @@
--- How long the parts of a call's text are (01, sheets), and an accepted call's text put part by part. Assumes nothing.
-use mathlib.Core.Path.{◌≡◌, refl}
+-- How long the parts of a call's text are (01, sheets), and an accepted call's text part by part. Assumes nothing.
+use mathlib.Core.Path.{◌≡◌, refl, ap, ap₂, ◌∙◌}
 use mathlib.Core.Bool.{Bool, true, false, cond}
 use mathlib.Core.List.{List, [], ◌∷◌, ◌++◌, append_assoc}
 use Prim.Native.Nat.{ℕ, ◌+◌, ◌*◌, ◌≤◌}
@@ -11,8 +11,10 @@ use Rattle.rules.specs.SheetOutput.{line, refusal_text}
 use Rattle.rules.proofs.LawsDigits.{decimal_length}
 use Rattle.rules.proofs.LawsSheetOutput.{line_length}
 use Rattle.cells.specs.Text.{part_at}
-use Rattle.cells.specs.Out.{Put}
-use Rattle.cells.proofs.LawsOut.{put_same, put_rest, put_then}
+use Rattle.cells.specs.Out.{stored, Put, Begins, Wrote}
+use Rattle.cells.specs.declared.out.Cursor.{Cursor}
+use Rattle.cells.proofs.LawsOut.{wrote_same, wrote_room, wrote_both}
+use Rattle.std.specs.Borrow.{MutBor}
 use Rattle.builder.specs.declared.params.Parameters.{Parameters}
 use Rattle.answers.specs.Answer.{name_bytes}
 use Rattle.answers.specs.declared.answer.Counts.{Counts}
@@ -21,10 +23,9 @@ use Rattle.answers.specs.declared.answer.Refusal.{Refusal}
 use Rattle.answers.specs.declared.answer.Refusal.TheVariants.{Record, ArgsArrayIsNotIterable, RepeatedParameter, KwArgsIsNotDict, ArgsValueIsNotString, RepeatedArg, MissingPositionalOnly, Missing, MissingNamedOnly, ExtraPositionalArg, ExtraNamedArg}
 use Rattle.sheet_output.specs.Parts.{lines_to, slot_line_at, stars, names, remainder_text}
 use Rattle.sheet_output.specs.Outcome.{heading, count_line, closing, refused_cells, accepted_shown, Limits}
-use Rattle.sheet_output.proofs.LawsLine.{put_both}
 use Rattle.sheet_output.proofs.LawsParts.{lines_length, slot_short, remainder_length}
 
-pub heading_length : length heading ≡ 16
+heading_length : length heading ≡ 16
 unfolding heading line
 heading_length = refl
 
@@ -44,7 +45,14 @@ closing_length taken defaulted =
       count_length (100 ∷ 101 ∷ 102 ∷ 97 ∷ 117 ∷ 108 ∷ 116 ∷ 101 ∷ 100 ∷ []) defaulted,
     )
 
--- ---- a refusal, put cell by cell
+-- ---- from the first byte on
+
+-- what is written from there on is put there
+pub wrote_whole : {text after : List ℕ} {out : MutBor (List ℕ)} {output end : Cursor} → Begins out output → Wrote text output end → after ≡ end.out.now → Put text 0 out.now after end.at
+wrote_whole {text = text} b w e =
+    record { held = e ∙ w.put.held ∙ ap₂ (λ cells at. stored cells at text) b.held b.at; ends = w.put.ends ∙ ap (λ n. n + length text) b.at }
+
+-- ---- a refusal, cell by cell
 
 pub cells_length : (n : ℕ) → length (refused_cells n) ≤ 29
 unfolding refused_cells
@@ -56,11 +64,10 @@ refusal_cells : (n : ℕ) (detail : List ℕ) → refused_cells n ++ (detail ++ 
 unfolding refused_cells refusal_text line
 refusal_cells n detail = simp append_assoc
 
-pub refusal_put : (n : ℕ) (detail out held after : List ℕ) (next end : ℕ) → length detail + 30 ≤ length out
-    → Put (refused_cells n) 0 out held next → Put (detail ++ (10 ∷ [])) next held after end → Put (refusal_text n detail) 0 out after end
-refusal_put n detail out held after next end h p q =
-    put_same (refused_cells n ++ (detail ++ (10 ∷ []))) (refusal_text n detail) (refusal_cells n detail)
-    (put_both (refused_cells n) (detail ++ (10 ∷ [])) 0 out (omega (arith, h, cells_length n, length-append detail (10 ∷ []))) held after next end p q)
+pub refusal_wrote : (n : ℕ) (detail : List ℕ) {output next end : Cursor} → output.at + length detail + 30 ≤ length output.out.now
+    → Wrote (refused_cells n) output next → Wrote (detail ++ (10 ∷ [])) next end → Wrote (refusal_text n detail) output end
+refusal_wrote n detail h w v =
+    wrote_same _ _ (refusal_cells n detail) (wrote_both _ _ _ w _ _ (omega (arith, h, cells_length n, length-append detail (10 ∷ []))) v)
 
 -- a payload's part of an area is no longer than its length byte says
 part_length : (area : List ℕ) (payload : ℕ) → length (part_at area payload) ≤ 255
@@ -84,7 +91,7 @@ name_length spec call (MissingNamedOnly name) = part_length spec name
 name_length spec call (ExtraPositionalArg n) = omega arith
 name_length spec call (ExtraNamedArg n name) = part_length call name
 
--- ---- an accepted call's text, put part by part
+-- ---- an accepted call's text, part by part
 
 module _ (spec call : List ℕ) (p : Parameters) (board : List ℕ) (c : Counts) (limits : Limits p c) where
   abbrev slots_text : List ℕ
@@ -93,7 +100,7 @@ module _ (spec call : List ℕ) (p : Parameters) (board : List ℕ) (c : Counts)
   abbrev rest_text : List ℕ
   rest_text = remainder_text spec call board (stars (2 * p.len) c.star) ++ remainder_text spec call board (names (2 * p.len + 2 * c.star) c.named)
 
-  pub slots_most : length slots_text ≤ 9728
+  slots_most : length slots_text ≤ 9728
   slots_most = omega (arith, limits.slots, lines_length (slot_line_at spec call p board) 152 (slot_short spec call p board) p.len)
 
   rest_most : length rest_text ≤ 26752
@@ -107,22 +114,20 @@ module _ (spec call : List ℕ) (p : Parameters) (board : List ℕ) (c : Counts)
         remainder_length spec call board (names (2 * p.len + 2 * c.star) c.named),
       )
 
-  accepted_most : length (heading ++ (slots_text ++ (rest_text ++ closing c.taken c.defaulted))) ≤ 36556
-  accepted_most =
-      let last : List ℕ = closing c.taken c.defaulted in
-      let l₁ : length (heading ++ (slots_text ++ (rest_text ++ last))) ≡ length heading + length (slots_text ++ (rest_text ++ last)) = length-append heading (slots_text ++ (rest_text ++ last)) in
-      let l₂ : length (slots_text ++ (rest_text ++ last)) ≡ length slots_text + length (rest_text ++ last) = length-append slots_text (rest_text ++ last) in
-      let l₃ : length (rest_text ++ last) ≡ length rest_text + length last = length-append rest_text last in
-      omega (arith, heading_length, slots_most, rest_most, closing_length c.taken c.defaulted)
+  module _ (output first : Cursor) (room : output.at + 40960 ≤ length output.out.now) (p₁ : Wrote heading output first) where
+    behind_heading : first.at + 40944 ≤ length first.out.now
+    behind_heading = wrote_room _ _ _ p₁ 40944 (omega (arith, room, heading_length))
 
-  pub accepted_put : (out first second third after : List ℕ) (m n o end : ℕ) → 40960 ≤ length out
-      → Put heading 0 out first m → Put slots_text m first second n → Put rest_text n second third o → Put (closing c.taken c.defaulted) o third after end
-      → Put (accepted_shown spec call p board c) 0 out after end
-  unfolding accepted_shown
-  accepted_put out first second third after m n o end h p₁ p₂ p₃ p₄ =
-      let last : List ℕ = closing c.taken c.defaulted in
-      let room : 0 + length (heading ++ (slots_text ++ (rest_text ++ last))) ≤ length out = omega (arith, accepted_most) in
-      let behind : m + length (slots_text ++ (rest_text ++ last)) ≤ length first = put_rest heading (slots_text ++ (rest_text ++ last)) 0 out room first m p₁ in
-      let behind₂ : n + length (rest_text ++ last) ≤ length second = put_rest slots_text (rest_text ++ last) m first behind second n p₂ in
-      put_then heading (slots_text ++ (rest_text ++ last)) 0 out room first after m end p₁
-      (put_then slots_text (rest_text ++ last) m first behind second after n end p₂ (put_then rest_text last n second behind₂ third after o end p₃ p₄))
+    module _ (second : Cursor) (p₂ : Wrote slots_text first second) where
+      pub behind_slots : second.at + 31216 ≤ length second.out.now
+      behind_slots = wrote_room _ _ _ p₂ 31216 (omega (arith, behind_heading, slots_most))
+
+      pub accepted_wrote : {third end : Cursor} → Wrote rest_text second third → Wrote (closing c.taken c.defaulted) third end → Wrote (accepted_shown spec call p board c) output end
+      unfolding accepted_shown
+      accepted_wrote p₃ p₄ =
+          let last : List ℕ = closing c.taken c.defaulted in
+          let l₁ : length (slots_text ++ (rest_text ++ last)) ≡ length slots_text + length (rest_text ++ last) = length-append slots_text (rest_text ++ last) in
+          let l₂ : length (rest_text ++ last) ≡ length rest_text + length last = length-append rest_text last in
+          let l₃ : length last ≤ 60 = closing_length c.taken c.defaulted in
+          wrote_both _ _ _ p₁ _ _ (omega (arith, room, heading_length, slots_most, rest_most))
+          (wrote_both _ _ _ p₂ _ _ (omega (arith, behind_heading, slots_most, rest_most)) (wrote_both _ _ _ p₃ _ _ (omega (arith, behind_slots, rest_most)) p₄))

@@ -1,4 +1,4 @@
--- Lines that a loop writes one behind the other (01, sheets): how far they reach, one more of them; and how long the lines of a board are.
+-- Lines that a loop writes one behind the other (01, sheets): the room behind them, one more of them; and how long the lines of a board are.
 -- Assumes nothing.
 use mathlib.Core.Path.{◌≡◌, refl, sym, ap}
 use mathlib.Core.List.{List, [], ◌∷◌, ◌++◌}
@@ -11,21 +11,22 @@ use Rattle.rules.specs.Value.{Value}
 use Rattle.rules.specs.SheetValue.{decimal}
 use Rattle.rules.proofs.LawsDigits.{decimal_length}
 use Rattle.rules.proofs.LawsSheetOutput.{line_length}
-use Rattle.cells.specs.Out.{Put}
+use Rattle.cells.specs.Out.{Wrote}
+use Rattle.cells.specs.declared.out.Cursor.{Cursor}
 use Rattle.cells.specs.Record.{pair_at}
-use Rattle.cells.proofs.LawsOut.{put_none, put_same}
+use Rattle.cells.proofs.LawsOut.{wrote_none, wrote_same, wrote_room, wrote_both}
 use Rattle.builder.specs.declared.params.Parameters.{Parameters}
 use Rattle.sheet_output.specs.Line.{shown_name, shown_value, name_for, shown_for}
 use Rattle.sheet_output.specs.declared.parts.Sort.{Sort}
 use Rattle.sheet_output.specs.declared.parts.Sort.TheVariants.{Star, Named}
 use Rattle.sheet_output.specs.Parts.{lines_to, slot_line, slot_line_at, star_line, star_line_at, named_line, named_line_at, element_line, element_most, remainder_text, remainder_most}
 use Rattle.sheet_output.specs.declared.parts.Remainder.{Remainder}
-use Rattle.sheet_output.proofs.LawsLine.{shown_name_length, shown_value_length, name_for_length, shown_for_length, put_both}
+use Rattle.sheet_output.proofs.LawsLine.{shown_name_length, shown_value_length, name_for_length, shown_for_length}
 
 -- ---- lines of at most `w` bytes
 
-pub lines_none : (f : ℕ → List ℕ) (at : ℕ) (out : List ℕ) → at ≤ length out → Put (lines_to f 0) at out out at
-lines_none f at out h = put_none [] out at refl (omega arith)
+pub lines_none : (f : ℕ → List ℕ) (output : Cursor) → output.at ≤ length output.out.now → Wrote (lines_to f 0) output output
+lines_none f output h = wrote_none [] output refl (omega arith)
 
 module _ (f : ℕ → List ℕ) (w : ℕ) (short : (k : ℕ) → length (f k) ≤ w) where
   pub lines_length : (k : ℕ) → length (lines_to f k) ≤ w * k
@@ -35,14 +36,15 @@ module _ (f : ℕ → List ℕ) (w : ℕ) (short : (k : ℕ) → length (f k) �
       let more : w * suc k ≡ w * k + w = mul-suc w k in
       omega (arith, length-append (lines_to f k) (f k), short k)
 
-  pub lines_end : (k at : ℕ) (out held : List ℕ) (end : ℕ) → Put (lines_to f k) at out held end → end ≤ at + w * k
-  lines_end k at out held end p = omega (arith, p.ends, lines_length k)
+  -- what is left behind the first k
+  pub lines_room : (k n : ℕ) (output next : Cursor) → output.at + w * k + n ≤ length output.out.now → Wrote (lines_to f k) output next → next.at + n ≤ length next.out.now
+  lines_room k n output next h p = wrote_room _ _ _ p n (omega (arith, h, lines_length k))
 
-  pub lines_more : (k at : ℕ) (out held after : List ℕ) (next end : ℕ) → at + w * k + w ≤ length out
-      → Put (lines_to f k) at out held next → Put (f k) next held after end → Put (lines_to f (k + 1)) at out after end
-  lines_more k at out held after next end h p q =
-      put_same (lines_to f k ++ f k) (lines_to f (k + 1)) (ap (lines_to f) (sym (add-one k)))
-      (put_both (lines_to f k) (f k) at out (omega (arith, h, lines_length k, short k)) held after next end p q)
+  pub lines_more : (k : ℕ) (output next end : Cursor) → output.at + w * k + w ≤ length output.out.now
+      → Wrote (lines_to f k) output next → Wrote (f k) next end → Wrote (lines_to f (k + 1)) output end
+  lines_more k output next end h p q =
+      wrote_same (lines_to f k ++ f k) (lines_to f (k + 1)) (ap (lines_to f) (sym (add-one k)))
+      (wrote_both _ _ _ p _ _ (omega (arith, h, lines_length k, short k)) q)
 
 -- ---- the lines of a board
 

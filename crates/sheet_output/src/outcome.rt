@@ -1,5 +1,5 @@
 // How a call ends, as text (01, sheets): an accepted call's lines, or a refusal alone.
-ghost use Rattle.std.specs.Prelude.{◌≡◌, List, ℕ, ◌+◌, ◌≤◌, length};
+ghost use Rattle.std.specs.Prelude.{Ok, ◌≡◌, List, ℕ, ◌+◌, ◌≤◌, length};
 ghost use Rattle.rules.specs.Value.{Value};
 ghost use Rattle.rules.specs.Answer.{Answer};
 ghost use Rattle.rules.specs.CallRecord.{Named};
@@ -7,65 +7,63 @@ ghost use Rattle.rules.specs.Parameters.{Parameter};
 ghost use Rattle.rules.specs.Collection.{outcome_of};
 ghost use Rattle.rules.specs.SheetValue.{decimal};
 ghost use Rattle.rules.specs.SheetOutput.{refusal_text, outcome_text};
-ghost use Rattle.cells.specs.Out.{Put};
+ghost use Rattle.cells.specs.Out.{Put, Wrote};
 ghost use Rattle.answers.specs.Answer.{refusal_number};
-ghost use Rattle.sheet_output.specs.Outcome.{heading, count_line, closing, accepted_shown, refused_cells, refused_shown, outcome_shown, Limits, OutcomeRoom, OutcomeReady};
+ghost use Rattle.sheet_output.specs.Outcome.{count_line, closing, accepted_shown, refused_cells, refused_shown, outcome_shown, Limits, OutcomeRoom, OutcomeReady};
 
-use crate::line::{number_cell, text_cell};
+use crate::line::{Bound, number_cell, text_cell};
 use crate::parts::{Remainder, Sort, write_remainders, write_slots};
 use answers::answer::{Counts, Refusal};
 use answers::detail::name_of;
+use builder::params::Parameters;
 use builder::spec::ParametersSpec;
-use cells::out::write_bytes;
+use cells::out::Cursor;
 
 // How a call ends, from byte 0 on, and how long that is. `list` is the one that the call was bound against, `board` and `answer` are what
 // collection left and answered.
 pub fn write_outcome<'a>(
-    list: &ParametersSpec,
-    spec: &'a [u8],
+    list: &ParametersSpec<'a>,
     call: &'a [u8],
     board: &'a [u64],
     answer: Result<Counts, Refusal>,
     out: &mut [u8],
 ) -> usize
     requires { OutcomeRoom list.now answer out.old }
-    ensures { (qs : List Parameter) (P : List Value) (N : List Named) (asked : Answer) (before : List ℕ) → OutcomeReady spec.now call.now list.now board.now answer qs P N asked before → Put (outcome_text spec.now call.now qs P N (outcome_of asked qs P N before)) 0 out.old out.new result }
+    ensures { (qs : List Parameter) (P : List Value) (N : List Named) (asked : Answer) (before : List ℕ) → OutcomeReady list.now.area.now call.now list.now board.now answer qs P N asked before → Put (outcome_text list.now.area.now call.now qs P N (outcome_of asked qs P N before)) 0 out.old out.new result }
 {
-    write_ending(list, spec, call, board, answer, out)
+    let bound = Bound {
+        spec: list.area,
+        call,
+        board,
+    };
+    let mut output = Cursor::new(out);
+    write_ending(&bound, list, answer, &mut output);
+    output.at
 }
 
 // The same, by the answer alone.
-fn write_ending<'a>(
+fn write_ending(
+    bound: &Bound,
     list: &ParametersSpec,
-    spec: &'a [u8],
-    call: &'a [u8],
-    board: &'a [u64],
     answer: Result<Counts, Refusal>,
-    out: &mut [u8],
-) -> usize
-    requires { OutcomeRoom list.now answer out.old }
-    ensures { Put (outcome_shown spec.now call.now list.now.params board.now answer) 0 out.old out.new result }
+    output: &mut Cursor,
+)
+    requires limits { (c : Counts) → answer ≡ Ok c → Limits list.now.params c }
+    requires room { output.old.at + 40960 ≤ length output.old.out.now }
+    ensures { Wrote (outcome_shown bound.now.spec.now bound.now.call.now list.now.params bound.now.board.now answer) output.old output.new }
 {
     match answer {
-        Ok(counts) => write_accepted(list, spec, call, board, counts, out),
-        Err(Refusal::ExtraPositionalArg(n)) => write_refused_count(23, n as u64, out),
-        Err(refusal) => write_refused(spec, call, refusal, out),
+        Ok(counts) => write_accepted(bound, &list.params, counts, output),
+        Err(Refusal::ExtraPositionalArg(n)) => refuse_count(23, n as u64, output),
+        Err(refusal) => write_refused(bound, refusal, output),
     }
 }
 
 // The columns, the slots, the star remainder before the named one, and the two counts.
-fn write_accepted<'a>(
-    list: &ParametersSpec,
-    spec: &'a [u8],
-    call: &'a [u8],
-    board: &'a [u64],
-    counts: Counts,
-    out: &mut [u8],
-) -> usize
-    requires { Limits list.now.params counts × (40960 ≤ length out.old) }
-    ensures { Put (accepted_shown spec.now call.now list.now.params board.now counts) 0 out.old out.new result }
+fn write_accepted(bound: &Bound, params: &Parameters, counts: Counts, output: &mut Cursor)
+    requires { Limits params.now counts × (output.old.at + 40960 ≤ length output.old.out.now) }
+    ensures { Wrote (accepted_shown bound.now.spec.now bound.now.call.now params.now bound.now.board.now counts) output.old output.new }
 {
-    let params = &list.params;
     let from = 2 * params.len;
     let star = Remainder {
         sort: Sort::Star,
@@ -77,41 +75,36 @@ fn write_accepted<'a>(
         from: from + 2 * counts.star,
         count: counts.named,
     };
-    let slots = write_heading(out);
-    let rest = write_slots(spec, call, params, board, slots, out);
-    let last = write_remainders(star, named, spec, call, board, rest, out);
-    write_closing(counts.taken, counts.defaulted, last, out)
+    output.write(b"slot,name,value\n");
+    write_slots(bound, params, output);
+    write_remainders(bound, star, named, output);
+    write_closing(counts.taken, counts.defaulted, output);
 }
 
-fn write_heading(out: &mut [u8]) -> usize
-    requires { 512 ≤ length out.old }
-    ensures { Put heading 0 out.old out.new result }
+fn write_closing(taken: usize, defaulted: usize, output: &mut Cursor)
+    requires { output.old.at + 512 ≤ length output.old.out.now }
+    ensures { Wrote (closing taken defaulted) output.old output.new }
 {
-    write_bytes(b"slot,name,value\n", 0, out)
+    write_count(b"taken", taken, output);
+    write_count(b"defaulted", defaulted, output);
 }
 
-fn write_closing(taken: usize, defaulted: usize, at: usize, out: &mut [u8]) -> usize
-    requires { at + 512 ≤ length out.old }
-    ensures { Put (closing taken defaulted) at out.old out.new result }
+fn write_count(word: &[u8], n: usize, output: &mut Cursor)
+    requires { output.old.at + length word.now + 64 ≤ length output.old.out.now }
+    ensures { Wrote (count_line word.now n) output.old output.new }
 {
-    let next = write_count(b"taken", taken, at, out);
-    write_count(b"defaulted", defaulted, next, out)
-}
-
-fn write_count(word: &[u8], n: usize, at: usize, out: &mut [u8]) -> usize
-    requires { at + length word.now + 64 ≤ length out.old }
-    ensures { Put (count_line word.now n) at out.old out.new result }
-{
-    let second = text_cell(word, b",", at, out);
-    number_cell(n as u64, b",\n", second, out)
+    text_cell(word, b",", output);
+    number_cell(n as u64, b",\n", output);
 }
 
 // A refusal with the name that goes with it, if one does.
-fn write_refused<'a>(spec: &'a [u8], call: &'a [u8], refusal: Refusal, out: &mut [u8]) -> usize
-    requires { 512 ≤ length out.old }
-    ensures { Put (refused_shown spec.now call.now refusal) 0 out.old out.new result }
+fn write_refused(bound: &Bound, refusal: Refusal, output: &mut Cursor)
+    requires { output.old.at + 512 ≤ length output.old.out.now }
+    ensures { Wrote (refused_shown bound.now.spec.now bound.now.call.now refusal) output.old output.new }
 {
-    write_refusal(number_of(refusal), name_of(spec, call, Err(refusal)), out)
+    let answer: Result<Counts, Refusal> = Err(refusal);
+    let name = name_of(bound.spec, bound.call, answer);
+    refuse(number_of(refusal), name, output);
 }
 
 // `refused`, the number and the detail's bytes.
@@ -119,8 +112,17 @@ pub fn write_refusal(number: u64, detail: &[u8], out: &mut [u8]) -> usize
     requires { length detail.now + 64 ≤ length out.old }
     ensures { Put (refusal_text number detail.now) 0 out.old out.new result }
 {
-    let third = write_number(number, out);
-    text_cell(detail, b"\n", third, out)
+    let mut output = Cursor::new(out);
+    refuse(number, detail, &mut output);
+    output.at
+}
+
+fn refuse(number: u64, detail: &[u8], output: &mut Cursor)
+    requires { output.old.at + length detail.now + 64 ≤ length output.old.out.now }
+    ensures { Wrote (refusal_text number detail.now) output.old output.new }
+{
+    write_number(number, output);
+    text_cell(detail, b"\n", output);
 }
 
 // The same where the detail is a number: how many values are left over (23), or the line of a sheet (30).
@@ -128,17 +130,26 @@ pub fn write_refused_count(number: u64, n: u64, out: &mut [u8]) -> usize
     requires { 64 ≤ length out.old }
     ensures { Put (refusal_text number (decimal n)) 0 out.old out.new result }
 {
-    let third = write_number(number, out);
-    number_cell(n, b"\n", third, out)
+    let mut output = Cursor::new(out);
+    refuse_count(number, n, &mut output);
+    output.at
+}
+
+fn refuse_count(number: u64, n: u64, output: &mut Cursor)
+    requires { output.old.at + 64 ≤ length output.old.out.now }
+    ensures { Wrote (refusal_text number (decimal n)) output.old output.new }
+{
+    write_number(number, output);
+    number_cell(n, b"\n", output);
 }
 
 // The first two cells of a refusal, which stands alone in the output.
-fn write_number(number: u64, out: &mut [u8]) -> usize
-    requires { 64 ≤ length out.old }
-    ensures { Put (refused_cells number) 0 out.old out.new result }
+fn write_number(number: u64, output: &mut Cursor)
+    requires { output.old.at + 64 ≤ length output.old.out.now }
+    ensures { Wrote (refused_cells number) output.old output.new }
 {
-    let second = write_bytes(b"refused,", 0, out);
-    number_cell(number, b",", second, out)
+    output.write(b"refused,");
+    number_cell(number, b",", output);
 }
 
 fn number_of(refusal: Refusal) -> u64

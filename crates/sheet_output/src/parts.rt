@@ -1,12 +1,12 @@
 // The parts of an accepted call's text (01, sheets): a line for each slot, then the star remainder's lines, then the named one's.
-ghost use Rattle.std.specs.Prelude.{◌++◌, ◌+◌, ◌*◌, ◌≤◌, length};
+ghost use Rattle.std.specs.Prelude.{◌++◌, ◌+◌, ◌*◌, ◌≤◌, ◌<◌, length};
 ghost use Rattle.cells.specs.Value.{pair_of};
-ghost use Rattle.cells.specs.Out.{Put};
-ghost use Rattle.sheet_output.specs.Parts.{lines_to, slot_line, slot_line_at, star_line, named_line, element_line, remainder_text, remainder_most, Near};
+ghost use Rattle.cells.specs.Out.{Wrote};
+ghost use Rattle.sheet_output.specs.Parts.{lines_to, slot_line_at, star_line, named_line, element_line, remainder_text, remainder_most, Near};
 
-use crate::line::{held_cell, name_cell, name_in, number_cell, text_cell, value_cell};
+use crate::line::{Bound, held_cell, name_cell, name_in, number_cell, text_cell, value_cell};
 use builder::params::Parameters;
-use cells::out::write_bytes;
+use cells::out::Cursor;
 use cells::record::pair_at;
 use cells::value::Pair;
 
@@ -26,141 +26,82 @@ pub struct Remainder {
 }
 
 // A line for each slot.
-pub(crate) fn write_slots<'a>(
-    spec: &'a [u8],
-    call: &'a [u8],
-    params: &Parameters,
-    board: &'a [u64],
-    at: usize,
-    out: &mut [u8],
-) -> usize
-    requires { (params.now.len ≤ 64) × (at + 152 * params.now.len + 512 ≤ length out.old) }
-    ensures { Put (lines_to (slot_line_at spec.now call.now params.now board.now) params.now.len) at out.old out.new result }
+pub(crate) fn write_slots(bound: &Bound, params: &Parameters, output: &mut Cursor)
+    requires { (params.now.len ≤ 64) × (output.old.at + 152 * params.now.len + 512 ≤ length output.old.out.now) }
+    ensures { Wrote (lines_to (slot_line_at bound.now.spec.now bound.now.call.now params.now bound.now.board.now) params.now.len) output.old output.new }
 {
-    let mut end = at;
     for i in 0..params.len {
-        end = write_slot(
-            spec,
-            call,
-            i,
-            params.codes[i],
-            params.names[i],
-            pair_at(board, 2 * i),
-            end,
-            out,
-        );
+        write_slot(bound, params, i, output);
     }
-    end
 }
 
 // The slot at an index, by the code and the name of its parameter.
-fn write_slot<'a>(
-    spec: &'a [u8],
-    call: &'a [u8],
-    i: usize,
-    code: u8,
-    name: u64,
-    pair: Pair,
-    at: usize,
-    out: &mut [u8],
-) -> usize
-    requires { at + 512 ≤ length out.old }
-    ensures { Put (slot_line spec.now call.now i code name (pair_of pair)) at out.old out.new result }
+fn write_slot(bound: &Bound, params: &Parameters, i: usize, output: &mut Cursor)
+    requires { (i < 64) × (output.old.at + 512 ≤ length output.old.out.now) }
+    ensures { Wrote (slot_line_at bound.now.spec.now bound.now.call.now params.now bound.now.board.now i) output.old output.new }
 {
-    let second = number_cell(i as u64, b",", at, out);
-    let third = name_cell(spec, code, name, second, out);
-    held_cell(spec, call, code, pair, third, out)
+    let code = params.codes[i];
+    number_cell(i as u64, b",", output);
+    name_cell(bound.spec, code, params.names[i], output);
+    held_cell(bound, code, pair_at(bound.board, 2 * i), output);
 }
 
 // Both remainders, one behind the other.
-pub(crate) fn write_remainders<'a>(
+pub(crate) fn write_remainders(
+    bound: &Bound,
     first: Remainder,
     second: Remainder,
-    spec: &'a [u8],
-    call: &'a [u8],
-    board: &'a [u64],
-    at: usize,
-    out: &mut [u8],
-) -> usize
-    requires { Near first × Near second × (at + remainder_most first + remainder_most second + 512 ≤ length out.old) }
-    ensures put { Put (remainder_text spec.now call.now board.now first ++ remainder_text spec.now call.now board.now second) at out.old out.new result }
-    ensures upper_bound { result ≤ at + remainder_most first + remainder_most second }
+    output: &mut Cursor,
+)
+    requires { Near first × Near second × (output.old.at + remainder_most first + remainder_most second + 512 ≤ length output.old.out.now) }
+    ensures wrote { Wrote (remainder_text bound.now.spec.now bound.now.call.now bound.now.board.now first ++ remainder_text bound.now.spec.now bound.now.call.now bound.now.board.now second) output.old output.new }
+    ensures room { output.new.at + 512 ≤ length output.new.out.now }
 {
-    let next = write_remainder(first, spec, call, board, at, out);
-    write_remainder(second, spec, call, board, next, out)
+    write_remainder(bound, first, output);
+    write_remainder(bound, second, output);
 }
 
 // A line for each element of a remainder.
-fn write_remainder<'a>(
-    rest: Remainder,
-    spec: &'a [u8],
-    call: &'a [u8],
-    board: &'a [u64],
-    at: usize,
-    out: &mut [u8],
-) -> usize
-    requires { Near rest × (at + remainder_most rest + 512 ≤ length out.old) }
-    ensures { Put (remainder_text spec.now call.now board.now rest) at out.old out.new result }
+fn write_remainder(bound: &Bound, rest: Remainder, output: &mut Cursor)
+    requires { Near rest × (output.old.at + remainder_most rest + 512 ≤ length output.old.out.now) }
+    ensures { Wrote (remainder_text bound.now.spec.now bound.now.call.now bound.now.board.now rest) output.old output.new }
 {
-    let mut end = at;
     for k in 0..rest.count {
-        end = write_element(rest.sort, spec, call, board, rest.from, k, end, out);
+        write_element(bound, rest, k, output);
     }
-    end
 }
 
-// Element k of a remainder whose cells begin at `from`.
-fn write_element<'a>(
-    sort: Sort,
-    spec: &'a [u8],
-    call: &'a [u8],
-    board: &'a [u64],
-    from: usize,
-    k: usize,
-    at: usize,
-    out: &mut [u8],
-) -> usize
-    requires { (from ≤ 1024) × (k ≤ 128) × (at + 512 ≤ length out.old) }
-    ensures { Put (element_line sort spec.now call.now board.now from k) at out.old out.new result }
+// Element k of a remainder.
+fn write_element(bound: &Bound, rest: Remainder, k: usize, output: &mut Cursor)
+    requires { (rest.from ≤ 1024) × (k ≤ 128) × (output.old.at + 512 ≤ length output.old.out.now) }
+    ensures { Wrote (element_line rest.sort bound.now.spec.now bound.now.call.now bound.now.board.now rest.from k) output.old output.new }
 {
-    match sort {
-        Sort::Star => write_star(spec, call, pair_at(board, from + 2 * k), at, out),
+    match rest.sort {
+        Sort::Star => write_star(bound, pair_at(bound.board, rest.from + 2 * k), output),
         Sort::Named => {
-            let key = from + 4 * k;
-            write_name(
-                spec,
-                call,
-                pair_at(board, key),
-                pair_at(board, key + 2),
-                at,
-                out,
-            )
+            let key = rest.from + 4 * k;
+            let name = pair_at(bound.board, key);
+            let value = pair_at(bound.board, key + 2);
+            write_name(bound, name, value, output);
         }
     }
 }
 
 // `star`, nothing and the value.
-fn write_star<'a>(spec: &'a [u8], call: &'a [u8], value: Pair, at: usize, out: &mut [u8]) -> usize
-    requires { at + 512 ≤ length out.old }
-    ensures { Put (star_line spec.now call.now (pair_of value)) at out.old out.new result }
+fn write_star(bound: &Bound, value: Pair, output: &mut Cursor)
+    requires { output.old.at + 512 ≤ length output.old.out.now }
+    ensures { Wrote (star_line bound.now.spec.now bound.now.call.now (pair_of value)) output.old output.new }
 {
-    let third = write_bytes(b"star,,", at, out);
-    value_cell(spec, call, value, third, out)
+    output.write(b"star,,");
+    value_cell(bound, value, output);
 }
 
 // `named`, the name and the value.
-fn write_name<'a>(
-    spec: &'a [u8],
-    call: &'a [u8],
-    key: Pair,
-    value: Pair,
-    at: usize,
-    out: &mut [u8],
-) -> usize
-    requires { at + 512 ≤ length out.old }
-    ensures { Put (named_line spec.now call.now (pair_of key) (pair_of value)) at out.old out.new result }
+fn write_name(bound: &Bound, key: Pair, value: Pair, output: &mut Cursor)
+    requires { output.old.at + 512 ≤ length output.old.out.now }
+    ensures { Wrote (named_line bound.now.spec.now bound.now.call.now (pair_of key) (pair_of value)) output.old output.new }
 {
-    let second = write_bytes(b"named,", at, out);
-    let third = text_cell(name_in(call, key.payload), b",", second, out);
-    value_cell(spec, call, value, third, out)
+    output.write(b"named,");
+    text_cell(name_in(bound.call, key.payload), b",", output);
+    value_cell(bound, value, output);
 }

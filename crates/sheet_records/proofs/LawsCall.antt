@@ -1,4 +1,4 @@
--- The cells of a call record (01, cells, texts and records), part by part: its head, the record's runs as the rows of a part in their order, how
+-- The cells of a call record (01, cells, texts and records), part by part: the record's runs as the rows of a part in their order, how
 -- many cells each takes, and the record by its head and its four parts.
 -- Assumes nothing.
 use mathlib.Core.Path.{◌≡◌, refl, sym, ap, ap₂, ◌∙◌}
@@ -10,37 +10,21 @@ use native.Mathlib.Omega.{arith}
 use lib.ListN.{length, get_or, length-append}
 use Rattle.rules.specs.Cells.{write_each}
 use Rattle.rules.specs.Listing.{tally}
-use Rattle.rules.specs.Value.{Value, value_width, value_cells, read_value}
+use Rattle.rules.specs.Value.{value_width, value_cells, read_value}
 use Rattle.rules.specs.CallRecord.{Pair, pair_width, pair_cells, read_pair, encode_call}
 use Rattle.rules.specs.SheetLines.{Row}
 use Rattle.rules.specs.SheetRows.{CallPart, positional, named, item, entry, is_part}
 use Rattle.rules.specs.SheetRecords.{call_texts, area_of, Placed, placed_from, row_value, named_pair, entry_pair, of_part, call_record}
 use Rattle.rules.proofs.LawsRecord.{length_write_each, value_cells_wide, pair_cells_wide}
 use Rattle.rules.proofs.LawsSheetForm.{part_many}
-use Rattle.cells.specs.Out.{stored}
-use Rattle.cells.specs.Value.{value}
-use Rattle.cells.proofs.LawsOut.{stored_stored}
 use Rattle.sheet_lines.specs.Word.{call_part_of}
 use Rattle.sheet_lines.specs.declared.word.CallPart as code
 use Rattle.sheet_lines.specs.declared.word.CallPart.TheVariants.{Positional, Named, Item, Entry}
 use Rattle.sheet_records.specs.Text.{name_text, row_texts}
 use Rattle.sheet_records.specs.Run.{text_kind, key_cells, last_value, row_cells, run_from}
-use Rattle.sheet_records.specs.Call.{part_at, parts_from, head_cells, CountsOf}
-use Rattle.sheet_judge.specs.declared.counts.Counts.{Counts}
-
--- ---- the head
-
--- six cells, two by two
-pub head_stored : (k : Counts) (out one two three : List ℕ) (x y z : Value) → 6 ≤ length out
-    → one ≡ stored out 0 (value_cells x) → two ≡ stored one 2 (value_cells y) → three ≡ stored two 4 (value_cells z)
-    → x ≡ value k.p k.n → y ≡ value k.star_kind k.s → z ≡ value k.double_kind k.d
-    → three ≡ stored out 0 (head_cells k)
-unfolding head_cells value_cells
-head_stored k out one two three x y z room first second third is_x is_y is-z =
-    third
-    ∙ ap (λ l. stored l 4 (value_cells z)) (second ∙ ap (λ l. stored l 2 (value_cells y)) first ∙ stored_stored out (value_cells x) (value_cells y) 0 2 refl (omega arith))
-    ∙ stored_stored out (value_cells x ++ value_cells y) (value_cells z) 0 4 refl (omega arith)
-    ∙ ap (stored out 0) (ap₂ (λ a b. (value_cells a ++ value_cells b) ++ value_cells z) is_x is_y ∙ ap (λ b. (value_cells (value k.p k.n) ++ value_cells (value k.star_kind k.s)) ++ value_cells b) is-z)
+use Rattle.sheet_records.specs.Call.{part_at, parts_from, CountsOf}
+use Rattle.calls.specs.Head.{head_of, head_cells}
+use Rattle.calls.specs.declared.head.Head.{Head}
 
 -- a row whose texts lie at `at`
 abbrev placed : Row → ℕ → Placed
@@ -130,13 +114,13 @@ module _ (rows : List Row) where
 
   -- ---- the record
 
-  module _ (k : Counts) (counts : CountsOf rows k) where
-    pub call_cells : encode_call (call_record rows) ≡ head_cells k ++ parts_from rows 0 4
-    unfolding encode_call call_record head_cells parts_from
+  module _ (k : Head) (counts : CountsOf rows k) where
+    pub call_cells : encode_call (call_record rows) ≡ head_cells (head_of k) ++ parts_from rows 0 4
+    unfolding encode_call call_record parts_from
     call_cells = simp (part_many positional row_value rows, part_many named named_pair rows, part_many item row_value rows, part_many entry entry_pair rows, counts.positionals, counts.named, counts.star, counts.items, counts.double, counts.entries, part_run positional row_value value_cells value_cells_lem 0 rows, part_run named named_pair pair_cells named_cells_lem 0 rows, part_run item row_value value_cells value_cells_lem 0 rows, part_run entry entry_pair pair_cells entry_cells 0 rows, append-nil)
 
-    pub parts_length : length (head_cells k ++ parts_from rows 0 4) ≤ 774
-    unfolding head_cells parts_from
+    pub parts_length : length (head_cells (head_of k) ++ parts_from rows 0 4) ≤ 774
+    unfolding parts_from
     parts_length =
         simp (length-append)
         (omega (arith, values_length positional value_cells_lem, pairs_length named named_pair named_cells_lem, values_length item value_cells_lem, pairs_length entry entry_pair entry_cells, counts.positionals, counts.named, counts.items, counts.entries, counts.few_positionals, counts.few_named, counts.few_items, counts.few_entries))

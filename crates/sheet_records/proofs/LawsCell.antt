@@ -1,5 +1,5 @@
--- A row of a sheet and the cells that it becomes (01, sheets; cells, texts and records): whether its part is the wanted one, which text its name
--- brings, and which cells it does. Assumes nothing.
+-- A row of a sheet and the cells that it becomes (01, sheets; cells, texts and records): whether its part is the wanted one, and which cells it
+-- brings. Assumes nothing.
 use mathlib.Core.Path.{◌≡◌, sym, ap, ◌∙◌}
 use mathlib.Core.Bool.{Bool, true, false, not, ◌||◌}
 use mathlib.Core.List.{List, [], ◌++◌}
@@ -7,10 +7,7 @@ use Prim.Native.Nat.{ℕ}
 use lib.Dec.{eqb}
 use Rattle.rules.specs.Value.{value_cells}
 use Rattle.rules.specs.SheetLines.{Row}
-use Rattle.rules.specs.SheetValue.{read_cell}
-use Rattle.rules.specs.SheetRows.{CallPart, entry, call_part, part_number, is_part}
-use Rattle.rules.specs.SheetRecords.{text_of, key_text}
-use Rattle.sheet_records.specs.Text.{name_text}
+use Rattle.rules.specs.SheetRows.{CallPart, call_part, part_number, is_part}
 use Rattle.sheet_records.specs.Run.{key_cells, last_value, row_cells}
 
 -- ---- a row's part
@@ -19,21 +16,6 @@ use Rattle.sheet_records.specs.Run.{key_cells, last_value, row_cells}
 pub part_told : (part : CallPart) (r : Row) (bytes : List ℕ) (b : Bool) → bytes ≡ r.part → b ≡ eqb (part_number (call_part bytes)) (part_number part) → is_part part r ≡ b
 unfolding is_part
 part_told part r bytes b e h = ap (λ x. eqb (part_number (call_part x)) (part_number part)) (sym e) ∙ sym h
-
--- ---- a row's name
-
-module _ (r : Row) (keyed : Bool) where
-  pub name_plain : keyed ≡ false → r.name ≡ name_text keyed r
-  unfolding name_text
-  name_plain k = rw k
-
-  pub name_entry : keyed ≡ true → is_part entry r ≡ true → text_of (read_cell r.name) ≡ name_text keyed r
-  unfolding name_text key_text
-  name_entry k e = rw (k, e)
-
-  pub name_other : keyed ≡ true → is_part entry r ≡ false → r.name ≡ name_text keyed r
-  unfolding name_text key_text
-  name_other k e = rw (k, e)
 
 -- ---- a row's cells
 

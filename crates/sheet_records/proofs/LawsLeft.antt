@@ -1,6 +1,6 @@
 -- Writing a run bit by bit (01, records and areas of sheets), as a loop over rows asks: what is left to write, where it goes, and that
--- writing it ends what was begun. A start, one run more, the end; then a run from cell 0 on, as a record's contract says it; then two
--- cells.
+-- writing it ends what was begun. A start, one run more, the end; then what was stored by way of a struct that holds what is lent; then a
+-- run from cell 0 on, as a record's contract says it.
 -- Assumes nothing.
 use mathlib.Core.Path.{◌≡◌, refl, sym, ap, subst, ◌∙◌}
 use mathlib.Core.List.{List, [], ◌∷◌, ◌++◌}
@@ -9,9 +9,8 @@ use native.Mathlib.Omega.{arith}
 use lib.ListN.{length, set}
 use borrow.Author.Tests.{le-leb}
 use Rattle.rules.specs.Cells.{over}
-use Rattle.rules.specs.Value.{Value, value_cells}
 use Rattle.cells.specs.Out.{stored, Put}
-use Rattle.cells.proofs.LawsOut.{stored_first, stored_length, put_none, put_same, put_front, put_rest, put_then}
+use Rattle.cells.proofs.LawsOut.{stored_first, stored_length, put_none, put_front, put_rest, put_then}
 
 -- `left` of `all` is to be stored from `next` on; whatever does so has stored `all` from `first` on
 pub record Left (all : List ℕ) (first : ℕ) (out₀ left : List ℕ) (next : ℕ) (out : List ℕ) : Type 0 where
@@ -42,6 +41,12 @@ module _ {all out₀ out : List ℕ} {first next : ℕ} (run rest : List ℕ) wh
 pub left_done : {all out₀ out : List ℕ} {first next : ℕ} (left : List ℕ) → left ≡ [] → Left all first out₀ left next out → Put all first out₀ out next
 left_done {out = out} {next = next} left e l = l.finish out next (put_none left out next e l.room)
 
+-- ---- by way of a struct
+
+-- it began with what is lent, at `from`, and what is there now is what it ended with
+pub put_lent : {xs lent before held after : List ℕ} {from at end : ℕ} → before ≡ lent → at ≡ from → after ≡ held → Put xs at before held end → Put xs from lent after end
+put_lent e f g p = rw (sym e, sym f, g) p
+
 -- ---- from cell 0 on
 
 pub put_over : {xs out after : List ℕ} {end : ℕ} → length xs ≤ length out → Put xs 0 out after end → after ≡ over xs out
@@ -52,9 +57,3 @@ pub put_first : (v : ℕ) (out : List ℕ) → 1 ≤ length out → Put (v ∷ [
 unfolding stored
 put_first v [] h = absurd (omega arith)
 put_first v (x ∷ xs) h = record { held = rw (le-leb 1 (length (x ∷ xs)) h); ends = refl }
-
--- ---- two cells
-
-pub put_value : (xs : List ℕ) (v : Value) (at : ℕ) (out held : List ℕ) → value_cells v ≡ xs → held ≡ stored out at (value_cells v) → Put xs at out held (at + 2)
-unfolding value_cells
-put_value xs v at out held e h = put_same (value_cells v) xs e (record { held = h; ends = refl })

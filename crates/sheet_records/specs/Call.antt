@@ -1,17 +1,13 @@
--- The head and the parts of a call record (01, cells, texts and records).
-use Rattle.std.specs.Prelude.{◌≡◌, true, List, [], ◌∷◌, ◌++◌, ℕ, zero, suc, ◌≤◌}
+-- The counts and the parts of a call record (01, cells, texts and records).
+use Rattle.std.specs.Prelude.{◌≡◌, true, List, [], ◌++◌, ℕ, zero, suc, ◌≤◌}
 use Rattle.rules.specs.Listing.{tally}
 use Rattle.rules.specs.SheetLines.{Row}
 use Rattle.rules.specs.SheetRows.{CallPart, positional, named, star, item, double, entry, is_part, is_list, is_dict}
 use Rattle.rules.specs.SheetRecords.{kind_by}
 use Rattle.sheet_records.specs.Run.{run_from}
-use Rattle.sheet_judge.specs.declared.counts.Counts.{Counts}
+use Rattle.calls.specs.declared.head.Head.{Head}
 
--- the six cells before the parts
-unfoldable pub head_cells : Counts → List ℕ
-head_cells k = k.p ∷ k.n ∷ k.star_kind ∷ k.s ∷ k.double_kind ∷ k.d ∷ []
-
--- the parts behind them, by number
+-- the parts behind the head, by number
 abbrev pub part_at : ℕ → CallPart
 part_at zero = positional
 part_at (suc zero) = named
@@ -24,7 +20,7 @@ parts_from rows n zero = []
 parts_from rows n (suc count) = run_from true (part_at n) 0 rows ++ parts_from rows (suc n) count
 
 -- counts and kinds are those of the rows, and no part has more than 64
-pub record CountsOf (rows : List Row) (k : Counts) : Type 0 where
+pub record CountsOf (rows : List Row) (k : Head) : Type 0 where
   pub positionals : k.p ≡ tally (is_part positional) rows
   pub named : k.n ≡ tally (is_part named) rows
   pub star : k.star_kind ≡ kind_by star is_list rows

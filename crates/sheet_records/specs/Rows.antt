@@ -1,11 +1,7 @@
--- The rows of a sheet that was judged right (01, sheets), one by one: which lines they stand in, and what reading the next of them answers.
-use Rattle.std.specs.Prelude.{◌≡◌, true, List, ◌∷◌, map, ℕ, suc, ◌≤◌, ◌<◌, length, take, drop}
+-- The rows of a sheet that was judged right (01, sheets): which lines they stand in.
+use Rattle.std.specs.Prelude.{◌≡◌, true, List, map, ℕ, ◌≤◌, length, take, drop}
 use Rattle.rules.specs.Listing.{all}
 use Rattle.rules.specs.SheetLines.{Columns, Row, lines_in, cells_in, three_cells, row_in}
-use Rattle.sheet_lines.specs.Piece.{piece}
-use Rattle.sheet_lines.specs.Row.{row_of}
-use Rattle.sheet_lines.specs.declared.row.Row as code
-use Rattle.sheet_records.specs.declared.row.RowAt.{RowAt}
 
 -- the rows in the next `count` lines from byte `from` on, and in all of them
 unfoldable pub rows_from : List ℕ → Columns → ℕ → ℕ → List Row
@@ -22,16 +18,3 @@ pub record RowsAhead (input : List ℕ) (c : Columns) (from count : ℕ) : Type 
   pub start : from ≤ length input
   pub enough : count ≤ length (lines_in (drop from input))
   pub cells : all (λ line. three_cells (cells_in line)) (take count (lines_in (drop from input))) ≡ true
-
--- a row's texts are short enough for a payload
-pub record RowHeld (r : code.Row) : Type 0 where
-  pub name_short : length r.name.now ≤ 255
-  pub value_short : length r.value.now ≤ 255
-
--- the line from byte `at` on, the row that it holds, and the lines behind it
-pub record LineRead (input : List ℕ) (c : Columns) (at : ℕ) (r : RowAt) : Type 0 where
-  pub after : at ≤ r.end
-  pub within : r.end < length input
-  pub lines : lines_in (drop at input) ≡ piece input at r.end ∷ lines_in (drop (suc r.end) input)
-  pub row : row_of r.row ≡ row_in c (piece input at r.end)
-  pub held : RowHeld r.row

@@ -1,6 +1,7 @@
 -- The cells that the rows of a sheet add to its record (01, cells, texts and records), of either sheet: in a parameter sheet each row is a step, in a
--- call (`keyed`) only the rows of one part count.
-use Rattle.std.specs.Prelude.{Bool, true, false, cond, not, ◌||◌, List, [], ◌++◌, ◌∷◌, ℕ, ◌+◌, ltb, length}
+-- call (`keyed`) only the rows of one part count. Then the lent cells that they are added to.
+use Rattle.std.specs.Prelude.{◌≡◌, Bool, true, false, cond, not, ◌||◌, List, [], ◌++◌, ◌∷◌, ℕ, ◌+◌, ltb, length}
+use Rattle.std.specs.Borrow.{MutBor}
 use Rattle.rules.specs.Text.{payload_of}
 use Rattle.rules.specs.Value.{Value, spec_text, call_text, value_cells}
 use Rattle.rules.specs.SheetLines.{Row}
@@ -8,7 +9,9 @@ use Rattle.rules.specs.SheetRows.{CallPart, positional, named, star, item, doubl
 use Rattle.rules.specs.SheetValue.{read_cell}
 use Rattle.rules.specs.SheetRecords.{value_at}
 use Rattle.cells.specs.Value.{value}
+use Rattle.cells.specs.Out.{Put}
 use Rattle.sheet_records.specs.Text.{name_text, row_texts}
+use Rattle.sheet_records.specs.declared.run.Run.{Run}
 
 -- the kind of a sheet's texts
 unfoldable pub text_kind : Bool → ℕ
@@ -37,3 +40,14 @@ row_cells keyed part at r = cond (not keyed || is_part part r) (key_cells keyed 
 abbrev pub run_from : Bool → CallPart → ℕ → List Row → List ℕ
 run_from keyed part at [] = []
 run_from keyed part at (r ∷ rs) = row_cells keyed part at r ++ run_from keyed part (at + length (row_texts keyed r)) rs
+
+-- lent cells from one of them on
+pub record Opens (lent : MutBor (List ℕ)) (from : ℕ) (run : Run) : Type 0 where
+  pub held : run.cells.now ≡ lent.now
+  pub next : run.next ≡ from
+  pub same_reference : run.cells.ghost_name ≡ lent.ghost_name
+
+-- a run with some more cells
+pub record Added (more : List ℕ) (before after : Run) : Type 0 where
+  pub put : Put more before.next before.cells.now after.cells.now after.next
+  pub same_reference : after.cells.ghost_name ≡ before.cells.ghost_name

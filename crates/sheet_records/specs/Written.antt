@@ -8,7 +8,7 @@ use Rattle.rules.specs.SheetRecords.{area_of, step_texts, parameter_record, call
 use Rattle.sheet_records.specs.Rows.{RowsAhead, all_rows}
 use Rattle.sheet_records.specs.Call.{CountsOf}
 use Rattle.sheet_records.specs.declared.Written.{Written}
-use Rattle.sheet_judge.specs.declared.counts.Counts.{Counts}
+use Rattle.calls.specs.declared.head.Head.{Head}
 
 -- a parameter sheet of `rows` rows, and room for the cells and bytes of the longest
 pub record ParametersReady (input : List ℕ) (c : Columns) (from rows : ℕ) (cells area : List ℕ) : Type 0 where
@@ -19,7 +19,7 @@ pub record ParametersReady (input : List ℕ) (c : Columns) (from rows : ℕ) (c
   pub area_room : 16384 ≤ length area
 
 -- a call sheet to the input's end with its counts, and room for the cells and bytes of the longest
-pub record CallReady (input : List ℕ) (c : Columns) (from : ℕ) (k : Counts) (cells area : List ℕ) : Type 0 where
+pub record CallReady (input : List ℕ) (c : Columns) (from : ℕ) (k : Head) (cells area : List ℕ) : Type 0 where
   pub ahead : RowsAhead input c from (length (lines_in (drop from input)))
   pub counts : CountsOf (all_rows input c from) k
   pub cells_room : 774 ≤ length cells

@@ -5,16 +5,10 @@ ghost use Rattle.rules.specs.Text.{payload_of};
 ghost use Rattle.rules.specs.SheetValue.{read_cell};
 ghost use Rattle.rules.specs.SheetRecords.{text_of, value_at};
 ghost use Rattle.cells.specs.Value.{pair_of};
-ghost use Rattle.sheet_records.specs.Run.{text_kind};
 
 use cells::text::Text;
 use cells::value::Pair;
 use sheet_values::read::{Cell, read_cell};
-
-// The kinds of texts, by the area that they stand in.
-const SPEC_TEXT: u64 = 5;
-
-pub(crate) const CALL_TEXT: u64 = 6;
 
 // The bytes that a cell brings into its area: a text's.
 pub(crate) fn text_of<'a>(cell: &'a [u8]) -> &'a [u8]
@@ -27,12 +21,13 @@ pub(crate) fn text_of<'a>(cell: &'a [u8]) -> &'a [u8]
 }
 
 // A value by its two cells: its text, if it is one, is of the kind that the sheet's texts are and lies at `start`.
+#[tactic(auto, unfolding(rules::specs::Value::no_value))]
 pub(crate) fn value_at(kind: u64, cell: &[u8], start: usize) -> Pair
     requires { (length cell.now ≤ 255) × (start ≤ 65535) }
     ensures { pair_of result ≡ value_at kind start (read_cell cell.now) }
 {
     match read_cell(cell) {
-        Some(Cell::Value(v)) => v.cells(),
+        Some(Cell::Value(v)) => Pair::from(v),
         Some(Cell::Text) => Pair::new(kind, payload_of(start, cell.len() - 1)),
         None => Pair::new(0, 0),
     }
@@ -48,11 +43,4 @@ pub(crate) fn payload_of(start: usize, size: usize) -> u64
         len: size as u8,
     }
     .payload()
-}
-
-// The kind of the texts of a call (`keyed`), and of a parameter sheet.
-pub(crate) fn text_kind(keyed: bool) -> u64
-    ensures { result ≡ text_kind keyed }
-{
-    if keyed { CALL_TEXT } else { SPEC_TEXT }
 }

@@ -1,5 +1,5 @@
 -- What a value is printed as (01, sheets): the digits that the kit's `io` counts and spells are the shortest decimal, and the 16 hexadecimal
--- digits; bytes put behind bytes; and for each case of a value, that what is written for it is what it prints (`printed_as`). Assumes nothing.
+-- digits; and for each case of a value, that what is written for it is what it prints (`printed_as`). Assumes nothing.
 use mathlib.Core.Path.{◌≡◌, refl, sym, ap, ◌∙◌}
 use mathlib.Core.Bool.{Bool, true, false, cond}
 use mathlib.Core.List.{List, [], ◌∷◌, ◌++◌}
@@ -18,8 +18,6 @@ use Rattle.cells.specs.declared.value.Value.TheVariants.{Nothing, Flag, Whole, R
 use Rattle.cells.specs.declared.value.Pair.{Pair}
 use Rattle.cells.specs.Text.{part_at}
 use Rattle.cells.specs.Value.{pair_of, cells_of}
-use Rattle.cells.specs.Out.{Put}
-use Rattle.cells.proofs.LawsOut.{put_then}
 use Rattle.sheet_values.specs.Print.{Printable}
 use Rattle.rules.proofs.LawsDigits.{decimal_fewest}
 
@@ -57,16 +55,6 @@ module _ (n k : ℕ) (h : n < 2 ^ 64) where
 
   pub spelled_bits : IsDigitCount 16 16 n k → (held : List ℕ) → take k held ≡ kit_digits 16 k n → take k held ≡ last_digits 16 16 n
   spelled_bits f held e = e ∙ digits_same 16 k n ∙ ap (λ (m : ℕ). last_digits 16 m n) (fewest_bits f)
-
--- ---- bytes behind bytes
-
--- `xs`, and `ys` behind them
-pub put_both : (xs ys : List ℕ) (at : ℕ) (out held after : List ℕ) (next end : ℕ) → at + length xs + length ys ≤ length out
-    → Put xs at out held next → Put ys next held after end → Put (xs ++ ys) at out after end
-put_both xs ys at out held after next end room = put_then xs ys at out (fits (length-append xs ys)) held after next end
-  where
-    fits : length (xs ++ ys) ≡ length xs + length ys → at + length (xs ++ ys) ≤ length out
-    fits l = omega arith
 
 -- ---- a value by its case
 

@@ -12,12 +12,12 @@ use native.Mathlib.Omega.{arith}
 use lib.Arith.{digits_lt}
 use lib.Dec.{leb, ltb, eqb}
 use lib.Pointwise.{pointwise}
-use lib.ListN.{length, take, drop, get_or, drop_of_length-le}
+use lib.ListN.{length, take, drop, get_or}
 use lib.Seq.{drop-cons}
-use borrow.Author.Tests.{leb-true, leb-false, le-leb, lt-leb, lt-ltb, le-ltb, eq-eqb, ne_eqb}
+use borrow.Author.Tests.{leb-true, leb-false, le-leb, lt-ltb, le-ltb, eq-eqb, ne_eqb}
 use Rattle.rules.specs.Listing.{all}
 use Rattle.rules.specs.SheetValue.{is_digit, is_hex_digit, worth, number_from, is_shortest, read_decimal, read_whole, read_bits}
-use Rattle.rules.proofs.LawsListing.{and_left, and_right}
+use Rattle.rules.proofs.LawsListing.{and_right}
 use Rattle.rules.proofs.LawsDigits.{number_least}
 use Rattle.std.specs.Bool.{then_some}
 use Rattle.sheet_values.specs.Read.{number_of, taken, below, negated, hex_worth}
@@ -25,27 +25,11 @@ use Rattle.sheet_values.specs.Read.{number_of, taken, below, negated, hex_worth}
 -- ---- one digit
 
 module _ (b : ℕ) (h : is_digit b ≡ true) where
-  pub digit_least : 48 ≤ b
-  digit_least = leb-true 48 b (and_left (leb 48 b) (leb b 57) h)
-
   pub digit_most : b ≤ 57
   digit_most = leb-true b 57 (and_right (leb 48 b) (leb b 57) h)
 
   pub digit_worth : worth b ≡ b - 48
   digit_worth = rw (le-leb b 57 digit_most)
-
-module _ (b : ℕ) where
-  pub hex_number : is_digit b ≡ true → hex_worth b ≡ some (b - 48)
-  unfolding hex_worth
-  hex_number h = rw (le-leb 48 b (digit_least b h), le-leb b 57 (digit_most b h))
-
-  pub hex_letter : 97 ≤ b → b ≤ 102 → hex_worth b ≡ some (b - 97 + 10)
-  unfolding hex_worth
-  hex_letter l m = rw (le-leb 48 b (omega arith), lt-leb b 57 (omega arith), le-leb 97 b l, le-leb b 102 m) (ap some (omega arith))
-
-  pub hex_none_at : is_hex_digit b ≡ false → hex_worth b ≡ none
-  unfolding hex_worth
-  hex_none_at h = rw h
 
 module _ (b : ℕ) (o : Option ℕ) (e : hex_worth b ≡ o) where
   pub hex_none : o ≡ none → is_hex_digit b ≡ false
@@ -77,9 +61,6 @@ hex_most b h = go (leb b 57) refl
 -- ---- a run of digits
 
 module _ (test : ℕ → Bool) (base before : ℕ) (bs : List ℕ) (i : ℕ) where
-  pub taken_end : length bs ≤ i → taken test base before (drop i bs) ≡ some before
-  taken_end h = rw (drop_of_length-le bs h)
-
   pub taken_none : i < length bs → test (get_or bs i 0) ≡ false → taken test base before (drop i bs) ≡ none
   taken_none h t = rw (drop-cons bs i 0, t)
 

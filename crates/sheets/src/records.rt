@@ -11,6 +11,7 @@ ghost use Rattle.sheets.specs.Read.{Room, RecordsWritten};
 
 use builder::build;
 use builder::spec::ParametersSpec;
+use cells::record::Record;
 use collector::collect::{BOARD, bind};
 use sheet_judge::Places;
 use sheet_output::outcome::{write_outcome, write_refusal};
@@ -85,43 +86,37 @@ pub(crate) fn bind_sheets(input: &[u8], places: Places, out: &mut [u8]) -> usize
     let list = records.spec;
     let given = records.call;
     bind_records(
-        &spec_cells[..list.cells],
-        &spec[..list.bytes],
-        &call_cells[..given.cells],
-        &call[..given.bytes],
+        &Record {
+            cells: &spec_cells[..list.cells],
+            area: &spec[..list.bytes],
+        },
+        &Record {
+            cells: &call_cells[..given.cells],
+            area: &call[..given.bytes],
+        },
         out,
     )
 }
 
 // The list, or the question of 1 to 7 that refuses it.
-fn bind_records<'a>(
-    spec_cells: &'a [u64],
-    spec: &'a [u8],
-    call_cells: &'a [u64],
-    call: &'a [u8],
-    out: &mut [u8],
-) -> usize
+fn bind_records(spec: &Record, call: &Record, out: &mut [u8]) -> usize
     requires { 40960 ≤ length out.old }
-    ensures { Put (records_text spec_cells.now spec.now call_cells.now call.now) 0 out.old out.new result }
+    ensures { Put (records_text spec.now.cells.now spec.now.area.now call.now.cells.now call.now.area.now) 0 out.old out.new result }
 {
-    match build(spec_cells, spec) {
-        Ok(list) => bind_list(&list, spec, call_cells, call, out),
+    match build(spec) {
+        Ok(list) => bind_list(&list, call, out),
         Err(question) => write_refusal(question.number(), b"", out),
     }
 }
 
 // The board, and what is printed of it and of the answer.
-fn bind_list<'a>(
-    list: &ParametersSpec,
-    spec: &'a [u8],
-    cells: &'a [u64],
-    call: &'a [u8],
-    out: &mut [u8],
-) -> usize
-    requires { ListReady spec.now list.now × (40960 ≤ length out.old) }
-    ensures { Put (bound_text (parameters_in spec.now list.now.params) spec.now cells.now call.now) 0 out.old out.new result }
+fn bind_list(list: &ParametersSpec, call: &Record, out: &mut [u8]) -> usize
+    requires { ListReady list.now.area.now list.now × (40960 ≤ length out.old) }
+    ensures { Put (bound_text (parameters_in list.now.area.now list.now.params) list.now.area.now call.now.cells.now call.now.area.now) 0 out.old out.new result }
 {
     let mut board: [u64; BOARD] = [0; BOARD];
-    let answer = bind(list, spec, cells, call, &mut board);
-    write_outcome(list, spec, call, &board, answer, out)
+    let answer = bind(list, call, &mut board);
+    // A loan of the same list under another name: the borrow checker does not cover one that is lent a second time here.
+    let printed = list;
+    write_outcome(printed, call.area, &board, answer, out)
 }

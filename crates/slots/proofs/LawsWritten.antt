@@ -70,7 +70,7 @@ module _ (slots : List rules.Slot) (values : List Value) (names : List Named) (l
       first : stored (stored before 0 (write_each slot_cells slots)) (2 * len) (write_each value_cells values) ≡ stored before 0 (write_each slot_cells slots ++ write_each value_cells values)
       first = stored_stored before (write_each slot_cells slots) (write_each value_cells values) 0 (2 * len) (omega (arith, slots_wide)) (omega (arith, values_wide))
 
-module _ (l : ParametersSpec) (cells : List ℕ) (h : Head) (next : ℕ) (sources rest : List ℕ) (count star : ℕ) (before : List ℕ) (ready : BoardReady l cells h rest count before) (left : star ≡ star_left l.indices.num_positional h) where
+module _ {l : ParametersSpec} {cells rest before : List ℕ} {h : Head} {count star : ℕ} (next : ℕ) (sources : List ℕ) (ready : BoardReady l cells h rest count before) (left : star ≡ star_left l.indices.num_positional h) where
   abbrev slots_of_lem : List rules.Slot
   slots_of_lem = slots_of l.params sources cells h next star count l.params.len
 
@@ -96,11 +96,11 @@ module _ (l : ParametersSpec) (cells : List ℕ) (h : Head) (next : ℕ) (source
         ready.long,
       )
 
-  pub board_written : (slots-in values-in after : List ℕ) (f : Filled) → Filling slots_of_lem before slots-in f
+  pub board_written : {slots-in values-in after : List ℕ} {f : Filled} → Filling slots_of_lem before slots-in f
       → values-in ≡ stored slots-in (2 * l.params.len) (write_each value_cells (values_in cells h l.indices.num_positional star))
       → ((area : List ℕ) → after ≡ stored values-in (2 * l.params.len + 2 * star) (write_each named_cells (held_names area cells rest count)))
       → BoardWritten l cells h next sources rest count before after (counted f)
-  board_written slots-in values-in after f fill ev en =
+  board_written {f = f} fill ev en =
       record {
         board =
             λ area.
@@ -158,7 +158,7 @@ module _ (spec : List ℕ) (l : ParametersSpec) (list : Prepared spec l) (cells 
     unfolding board_after
     board_placed ready =
         so.board area ∙ ap (stored before 0) (sym written_is)
-        ∙ stored_first before (written qs P N) (rw written_is (written_fits l cells h next sources rest count (star_left l.indices.num_positional h) before ready refl area))
+        ∙ stored_first before (written qs P N) (rw written_is (written_fits next sources ready refl area))
 
     pub counts_placed : answer.counts_of c ≡ rules.counts_of qs P N
     unfolding rules.counts_of

@@ -11,46 +11,42 @@ ghost use Rattle.slots.specs.Board.{RestHeld, BoardReady, BoardWritten};
 use crate::slots::write_slots;
 use answers::answer::Counts;
 use builder::spec::ParametersSpec;
-use calls::head::{Head, PAIR, VALUE};
+use calls::head::{Call, PAIR, VALUE};
 use calls::values::write_values;
 use cells::out::put_inside;
 use cells::record::pair_at;
-use findings::resolve::NAMED;
+use findings::resolve::Resolution;
 
 // All of it, and how much there is of each part.
 pub fn write_board(
     list: &ParametersSpec,
-    cells: &[u64],
-    h: Head,
-    next: usize,
-    sources: &[usize; 64],
-    rest: &[usize; NAMED],
-    count: usize,
+    call: &Call,
+    resolved: &Resolution,
     board: &mut [u64],
 ) -> Counts
-    requires { BoardReady list.now cells.now (head_of h) rest.now count board.old }
-    ensures { BoardWritten list.now cells.now (head_of h) next sources.now rest.now count board.old board.new result }
+    requires { BoardReady list.now call.now.cells.now (head_of call.now.head) resolved.now.rest resolved.now.count board.old }
+    ensures { BoardWritten list.now call.now.cells.now (head_of call.now.head) resolved.now.next resolved.now.sources resolved.now.rest resolved.now.count board.old board.new result }
 {
     let len = list.params.len;
     let positional = list.indices.num_positional;
-    let star = (h.p + h.s).saturating_sub(positional);
-    let filled = write_slots(&list.params, sources, cells, h, next, star, count, board);
-    write_values(cells, h, positional, star, VALUE * len, board);
-    write_named(cells, rest, count, VALUE * len + VALUE * star, board);
+    let star = (call.head.p + call.head.s).saturating_sub(positional);
+    let filled = write_slots(&list.params, call, resolved, star, board);
+    write_values(call, positional, star, VALUE * len, board);
+    write_named(call.cells, resolved, VALUE * len + VALUE * star, board);
     Counts {
         taken: filled.taken,
         defaulted: filled.defaulted,
         star,
-        named: count,
+        named: resolved.count,
     }
 }
 
-// The `count` pairs of the named remainder, stored from cell `at` on.
-pub fn write_named(cells: &[u64], rest: &[usize; NAMED], count: usize, at: usize, board: &mut [u64])
-    requires { RestHeld cells.now rest.now count × (at + 4 * count ≤ length board.old) }
-    ensures { (area : List ℕ) → board.new ≡ stored board.old at (write_each named_cells (held_names area cells.now rest.now count)) }
+// The pairs of the named remainder, stored from cell `at` on.
+pub fn write_named(cells: &[u64], resolved: &Resolution, at: usize, board: &mut [u64])
+    requires { RestHeld cells.now resolved.now.rest resolved.now.count × (at + 4 * resolved.now.count ≤ length board.old) }
+    ensures { (area : List ℕ) → board.new ≡ stored board.old at (write_each named_cells (held_names area cells.now resolved.now.rest resolved.now.count)) }
 {
-    for (k, pair) in rest[..count].iter().enumerate() {
+    for (k, pair) in resolved.rest[..resolved.count].iter().enumerate() {
         let to = at + PAIR * k;
         put_inside(board, to, pair_at(cells, *pair));
         put_inside(board, to + VALUE, pair_at(cells, *pair + VALUE));

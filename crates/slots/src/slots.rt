@@ -8,14 +8,15 @@ ghost use Rattle.calls.specs.Head.{head_of};
 ghost use Rattle.slots.specs.Slots.{slot_in, unfilled_as, slot_at, slots_of, Filling};
 
 use builder::params::Parameters;
-use calls::head::Head;
+use calls::head::Call;
 use calls::place::position_at;
 use cells::out::put_inside;
 use cells::record::pair_at;
 use cells::value::Pair;
+use findings::resolve::Resolution;
 
 // What a parameter's slot holds: nothing, a value of the call, the parameter's default, or a remainder's count.
-#[derive(Clone, Copy)]
+#[derive(Clone, Copy, Debug, PartialEq, Eq)]
 pub enum Slot {
     Empty,
     Taken(Pair),
@@ -26,23 +27,16 @@ pub enum Slot {
 
 // Slot k: a value of P below `next`, or the value that a name gives it, or what its code says.
 #[tactic(auto, using(crate::proofs::LawsSlots::slot_below, crate::proofs::LawsSlots::slot_named, crate::proofs::LawsSlots::slot_unfilled))]
-pub fn slot_at(
-    params: &Parameters,
-    sources: &[usize; 64],
-    cells: &[u64],
-    h: Head,
-    next: usize,
-    k: usize,
-) -> Slot
+pub fn slot_at(params: &Parameters, call: &Call, resolved: &Resolution, k: usize) -> Slot
     requires { k < 64 }
-    ensures { slot_in result ≡ slot_at params.now sources.now cells.now (head_of h) next k }
+    ensures { slot_in result ≡ slot_at params.now resolved.now.sources call.now.cells.now (head_of call.now.head) resolved.now.next k }
 {
-    if k < next {
-        return Slot::Taken(pair_at(cells, position_at(h, k)));
+    if k < resolved.next {
+        return Slot::Taken(pair_at(call.cells, position_at(call.head, k)));
     }
-    let source = sources[k];
+    let source = resolved.sources[k];
     if source != 0 {
-        return Slot::Taken(pair_at(cells, source));
+        return Slot::Taken(pair_at(call.cells, source));
     }
     let default = Pair::new(params.default_kinds[k], params.default_payloads[k]);
     Slot::unfilled(params.codes[k], default)
@@ -96,27 +90,24 @@ pub struct Filled {
     pub defaulted: usize,
 }
 
-// The cells of the list's slots, from cell 0 of the board on.
+// The cells of the list's slots, from cell 0 of the board on, where the star remainder has `star` elements.
 pub fn write_slots(
     params: &Parameters,
-    sources: &[usize; 64],
-    cells: &[u64],
-    h: Head,
-    next: usize,
+    call: &Call,
+    resolved: &Resolution,
     star: usize,
-    named: usize,
     board: &mut [u64],
 ) -> Filled
     requires { (params.now.len ≤ 64) × (128 ≤ length board.old) }
-    ensures { Filling (slots_of params.now sources.now cells.now (head_of h) next star named params.now.len) board.old board.new result }
+    ensures { Filling (slots_of params.now resolved.now.sources call.now.cells.now (head_of call.now.head) resolved.now.next star resolved.now.count params.now.len) board.old board.new result }
 {
     let mut taken = 0;
     let mut defaulted = 0;
     for k in 0..params.len {
-        let slot = slot_at(params, sources, cells, h, next, k);
+        let slot = slot_at(params, call, resolved, k);
         taken += slot.taken();
         defaulted += slot.defaulted();
-        put_inside(board, 2 * k, slot.pair(star, named));
+        put_inside(board, 2 * k, slot.pair(star, resolved.count));
     }
     Filled { taken, defaulted }
 }

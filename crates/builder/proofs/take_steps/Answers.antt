@@ -6,7 +6,7 @@ use Rattle.builder.proofs.take_steps.Goals as goal
 
 pub loop-i-init : goal.loop-i-init
 loop-i-init c =
-    let a = c.args in
+    let a = c.args.«record».now in
     record {
       fine = refl;
       left = left_start a.cells.now a.area.now c.step_count-m.result c.new.result c.step_count-m.ensures c.new.ensures;
@@ -14,7 +14,7 @@ loop-i-init c =
 
 pub returns-then-is_err : goal.returns-then-is_err
 returns-then-is_err c =
-    let a = c.args in
+    let a = c.args.«record».now in
     let at = c.loop-i in
     let took = c.step_at in
     let step = c.step-stepped in
@@ -24,7 +24,7 @@ returns-then-is_err c =
 
 pub loop-i-preserved : goal.loop-i-preserved
 loop-i-preserved c =
-    let a = c.args in
+    let a = c.args.«record».now in
     let at = c.loop-i in
     let took = c.step_at in
     let step = c.step-stepped in
@@ -37,6 +37,6 @@ loop-i-preserved c =
 
 pub returns : goal.returns
 returns c =
-    let a = c.args in
+    let a = c.args.«record».now in
     let at = c.loop-i in
     left_end a.cells.now a.area.now c.step_count-m.result at.stepped at.i at.invariant.fine at.invariant.left c.loop-i-test.false

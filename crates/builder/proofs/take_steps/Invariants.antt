@@ -9,5 +9,5 @@ use Rattle.builder.proofs.take_steps.Given as goal
 abbrev pub invariant-loop-i : goal.invariant-loop-i
 invariant-loop-i l = record {
   fine : l.stepped.answer ≡ Ok tt;
-  left : Left l.cells l.area l.m l.stepped.builder l.i;
+  left : Left l.«record».cells.now l.«record».area.now l.m l.stepped.builder l.i;
 }

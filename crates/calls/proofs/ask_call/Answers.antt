@@ -2,7 +2,6 @@
 -- Assumes nothing.
 use mathlib.Core.Path.{◌≡◌, sym, ap, ◌∙◌}
 use Rattle.std.proofs.lemmas.Result.{err_from_is_err_and}
-use borrow.Author.Tests.{not-true, not-false}
 use Rattle.rules.specs.Answer.{fine}
 use Rattle.rules.specs.CallRecord.{read_call}
 use Rattle.rules.specs.CallQuestions.{names_differ, ask_form}
@@ -13,15 +12,15 @@ use Rattle.calls.proofs.ask_call.Goals as goal
 use Rattle.calls.proofs.ask_call.Goals.{After-keys_differ, In_ok-ask_keys}
 
 -- 9 to 12 passed
-keys_passed : (c : In_ok-ask_keys) → ask_keys 64 c.args.cells.now c.args.area.now ≡ fine
+keys_passed : (c : In_ok-ask_keys) → ask_keys 64 c.args.record.now.cells.now c.args.record.now.area.now ≡ fine
 keys_passed c = sym c.ask_keys.ensures ∙ ap answer_of c.in_ok-ask_keys.was
 
-form_passed : (c : In_ok-ask_keys) → ask_form 64 c.args.cells.now c.args.area.now ≡ fine
+form_passed : (c : In_ok-ask_keys) → ask_form 64 c.args.record.now.cells.now c.args.record.now.area.now ≡ fine
 form_passed c = keys_form 64 _ _ (keys_passed c)
 
 -- 13 of a record that passed them, by what its function answered
 thirteen : (c : After-keys_differ) → let s = c.args in
-    ask_form 64 s.cells.now s.area.now ≡ fine → names_differ s.area.now (read_call s.cells.now) ≡ c.keys_differ.result
+    ask_form 64 s.record.now.cells.now s.record.now.area.now ≡ fine → names_differ s.record.now.area.now (read_call s.record.now.cells.now) ≡ c.keys_differ.result
 thirteen c p =
     names_as_keys _ _ c.read_head-h.ensures 64 (form_lengths 64 _ _ p) _ (form_parts 64 _ _ p)
     ∙ rw (sym c.named_from.ensures) (sym c.keys_differ.ensures)
@@ -41,8 +40,8 @@ keys_differ-requires c =
 
 pub returns-then-not-keys_differ : goal.returns-then-not-keys_differ
 returns-then-not-keys_differ c =
-    rw (call_in_turn, keys_passed (goal.at.returns-then-not-keys_differ c).In_ok-ask_keys, thirteen (goal.at.returns-then-not-keys_differ c).After-keys_differ (form_passed (goal.at.returns-then-not-keys_differ c).In_ok-ask_keys) ∙ not-true _ c.if-not-keys_differ.true-raw)
+    rw (call_in_turn, keys_passed (goal.at.returns-then-not-keys_differ c).In_ok-ask_keys, thirteen (goal.at.returns-then-not-keys_differ c).After-keys_differ (form_passed (goal.at.returns-then-not-keys_differ c).In_ok-ask_keys) ∙ c.if-not-keys_differ.true)
 
 pub returns : goal.returns
 returns c =
-    rw (call_in_turn, keys_passed (goal.at.returns c).In_ok-ask_keys, thirteen (goal.at.returns c).After-keys_differ (form_passed (goal.at.returns c).In_ok-ask_keys) ∙ not-false _ c.if-not-keys_differ.false-raw)
+    rw (call_in_turn, keys_passed (goal.at.returns c).In_ok-ask_keys, thirteen (goal.at.returns c).After-keys_differ (form_passed (goal.at.returns c).In_ok-ask_keys) ∙ c.if-not-keys_differ.false)

@@ -1,6 +1,5 @@
 -- `calls::ask_entries` meets its contract: what passed 9 to 11 gives 12 what it requires. Assumes nothing.
 use mathlib.Core.Path.{◌≡◌, sym, ◌∙◌}
-use borrow.Author.Tests.{not-true, not-false}
 use Rattle.rules.specs.CallRecord.{read_call}
 use Rattle.rules.specs.CallQuestions.{entries_differ}
 use Rattle.calls.specs.Keys.{ask_keys}
@@ -10,7 +9,7 @@ use Rattle.calls.proofs.ask_entries.Goals.{After-keys_differ}
 
 -- 12, by what its function answered
 twelve : (c : After-keys_differ) → let s = c.args in
-    entries_differ s.area.now (read_call s.cells.now) ≡ c.keys_differ.result
+    entries_differ s.record.now.area.now (read_call s.record.now.cells.now) ≡ c.keys_differ.result
 twelve c =
     entries_by _ _ c.read_head-h.ensures _ ∙ rw (sym c.entries_from.ensures) (sym c.keys_differ.ensures)
 
@@ -24,8 +23,8 @@ keys_differ-requires c =
 
 pub returns-then-not-keys_differ : goal.returns-then-not-keys_differ
 unfolding ask_keys
-returns-then-not-keys_differ c = rw (c.requires, twelve (goal.at.returns-then-not-keys_differ c).After-keys_differ ∙ not-true _ c.if-not-keys_differ.true-raw)
+returns-then-not-keys_differ c = rw (c.requires, twelve (goal.at.returns-then-not-keys_differ c).After-keys_differ ∙ c.if-not-keys_differ.true)
 
 pub returns : goal.returns
 unfolding ask_keys
-returns c = rw (c.requires, twelve (goal.at.returns c).After-keys_differ ∙ not-false _ c.if-not-keys_differ.false-raw)
+returns c = rw (c.requires, twelve (goal.at.returns c).After-keys_differ ∙ c.if-not-keys_differ.false)

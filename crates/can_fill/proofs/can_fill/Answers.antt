@@ -10,28 +10,28 @@ use Rattle.builder.specs.Params.{parameters_in}
 use Rattle.calls.specs.Head.{head_of}
 use Rattle.can_fill.proofs.LawsCanFill.{room_few, room_args, no_room, no_names, by_missing}
 use Rattle.can_fill.proofs.can_fill.Goals as goal
-use Rattle.can_fill.proofs.can_fill.Goals.{After-min-next, Joined-else-indices-h, else-indices-h-via-then-indices-h+else-is_none, else-indices-h-via-else-indices-h}
+use Rattle.can_fill.proofs.can_fill.Goals.{After-min-next, Joined-else-indices-p, else-indices-p-via-then-indices-p+else-is_none, else-indices-p-via-else-indices-p}
 
 pub returns-then-is_none : goal.returns-then-is_none
 returns-then-is_none c =
     let a = c.args in
-    sym (no_room a.spec.now a.list.now a.cells.now a.area.now (head_of a.h) c.requires c.if-indices-h.true (c.is_none.ensures ∙ ap not c.if-is_none.true))
+    sym (no_room a.list.now.area.now a.list.now a.call.now.cells.now a.call.now.area.now (head_of a.call.now.head) c.requires c.if-indices-p.true (c.is_none.ensures ∙ ap not c.if-is_none.true))
 
 -- surplus positionals have *args to go to
-room : (c : Joined-else-indices-h) → let a = c.args in
-    (leb a.h.p (positional_count (parameters_in a.spec.now a.list.now.params)) || has_args (parameters_in a.spec.now a.list.now.params)) ≡ true
+room : (c : Joined-else-indices-p) → let a = c.args in
+    (leb a.call.now.head.p (positional_count (parameters_in a.list.now.area.now a.list.now.params)) || has_args (parameters_in a.list.now.area.now a.list.now.params)) ≡ true
 room c =
     let a = c.args in
-    elim c.else-indices-h.branch [
-      | else-indices-h-via-then-indices-h+else-is_none w ↦ room_args a.spec.now a.list.now a.cells.now a.area.now (head_of a.h) c.requires (w.is_none.ensures ∙ ap not w.if-is_none.false)
-      | else-indices-h-via-else-indices-h w ↦ room_few a.spec.now a.list.now a.cells.now a.area.now (head_of a.h) c.requires w.if-indices-h.false
+    elim c.else-indices-p.branch [
+      | else-indices-p-via-then-indices-p+else-is_none w ↦ room_args a.list.now.area.now a.list.now a.call.now.cells.now a.call.now.area.now (head_of a.call.now.head) c.requires (w.is_none.ensures ∙ ap not w.if-is_none.false)
+      | else-indices-p-via-else-indices-p w ↦ room_few a.list.now.area.now a.list.now a.call.now.cells.now a.call.now.area.now (head_of a.call.now.head) c.requires w.if-indices-p.false
     ]
 
 -- the slots below `next` are filled by position
 upto : (c : After-min-next) → let a = c.args in
-    c.min-next.result ≡ min a.h.p (positional_count (parameters_in a.spec.now a.list.now.params))
+    c.min-next.result ≡ min a.call.now.head.p (positional_count (parameters_in a.list.now.area.now a.list.now.params))
 upto c =
-    c.min-next.ensures ∙ ap (min c.args.h.p) c.requires.list.is_list.positional
+    c.min-next.ensures ∙ ap (min c.args.call.now.head.p) c.requires.list.is_list.positional
 
 pub fill_names-requires : goal.fill_names-requires
 fill_names-requires c =
@@ -45,11 +45,11 @@ fill_names-requires c =
 pub returns-else-fill_names : goal.returns-else-fill_names
 returns-else-fill_names c =
     let a = c.args in
-    c.if-fill_names.false ∙ sym (no_names a.spec.now a.list.now a.cells.now a.area.now (head_of a.h) c.requires (room (goal.at.returns-else-fill_names c).Joined-else-indices-h) c.fill_names.new.named c.fill_names.result c.fill_names.ensures (c.if-fill_names.false))
+    c.if-fill_names.false ∙ sym (no_names a.list.now.area.now a.list.now a.call.now.cells.now a.call.now.area.now (head_of a.call.now.head) c.requires (room (goal.at.returns-else-fill_names c).Joined-else-indices-p) c.fill_names.new.named c.fill_names.result c.fill_names.ensures (c.if-fill_names.false))
 
 pub returns-then-fill_names : goal.returns-then-fill_names
 returns-then-fill_names c =
     let a = c.args in
     sym (not-not c.is_none-then-fill_names.result)
     ∙ ap not (sym c.is_none-then-fill_names.ensures)
-    ∙ sym (by_missing a.spec.now a.list.now a.cells.now a.area.now (head_of a.h) c.requires (room (goal.at.returns-then-fill_names c).Joined-else-indices-h) c.fill_names.new.named c.fill_names.result c.fill_names.ensures (c.if-fill_names.true) c.min-next.result (upto (goal.at.returns-then-fill_names c).After-min-next) c.first_missing.result c.first_missing.ensures)
+    ∙ sym (by_missing a.list.now.area.now a.list.now a.call.now.cells.now a.call.now.area.now (head_of a.call.now.head) c.requires (room (goal.at.returns-then-fill_names c).Joined-else-indices-p) c.fill_names.new.named c.fill_names.result c.fill_names.ensures (c.if-fill_names.true) c.min-next.result (upto (goal.at.returns-then-fill_names c).After-min-next) c.first_missing.result c.first_missing.ensures)

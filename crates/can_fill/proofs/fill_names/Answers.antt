@@ -13,14 +13,14 @@ use Rattle.findings.specs.Resolve.{found_at}
 use Rattle.findings.proofs.LawsNames.{one_each}
 use Rattle.can_fill.specs.CanFill.{bytes_from, written_in, free_for}
 use Rattle.can_fill.proofs.LawsFilling.{Counted}
-use Rattle.can_fill.proofs.LawsCanFill.{found_below, names_none, names_more, names_stop, names_end}
+use Rattle.can_fill.proofs.LawsCanFill.{names_none, names_more, names_stop, names_end}
 use Rattle.can_fill.proofs.fill_names.Goals as goal
 use Rattle.can_fill.proofs.fill_names.Goals.{After-fill}
 
 pub loop-k-init : goal.loop-k-init
 loop-k-init c =
     let a = c.args in
-    names_none a.spec.now a.list.now a.cells.now a.area.now (head_of a.h) a.next a.named.now c.requires
+    names_none a.list.now.area.now a.list.now a.call.now.cells.now a.call.now.area.now (head_of a.call.now.head) a.next a.named.now c.requires
 
 -- the pairs begin near the front
 pub overflow_add-from : goal.overflow_add-from
@@ -30,22 +30,19 @@ overflow_add-from c = omega arith
 pub found_at-found-requires : goal.found_at-found-requires
 found_at-found-requires c =
     let a = c.args in
-    one_each a.spec.now a.list.now a.cells.now a.area.now c.requires.call.list
-
-pub fill-requires : goal.fill-requires
-fill-requires c = rw c.found_at-found.ensures (found_below _ c.args.list.now _ _ _)
+    one_each a.list.now.area.now a.list.now a.call.now.cells.now a.call.now.area.now c.requires.call.list
 
 -- what was found for the name, whether that is free, and what is named after it
 module _ (c : After-fill) where
   abbrev found : Option ℕ
   found =
       let a = c.args in
-      found_at a.spec.now a.list.now a.area.now a.cells.now (named_from (head_of a.h) + 4 * c.loop-k.k)
+      found_at a.list.now.area.now a.list.now a.call.now.area.now a.call.now.cells.now (named_from (head_of a.call.now.head) + 4 * c.loop-k.k)
 
   found_there : c.found_at-found.result ≡ found
   found_there =
       let a = c.args in
-      c.found_at-found.ensures ∙ ap (λ n. found_at a.spec.now a.list.now a.area.now a.cells.now (n + 4 * c.loop-k.k)) c.named_from-from.ensures
+      c.found_at-found.ensures ∙ ap (λ n. found_at a.list.now.area.now a.list.now a.call.now.area.now a.call.now.cells.now (n + 4 * c.loop-k.k)) c.named_from-from.ensures
 
   tested
       : let a = c.args in
@@ -60,7 +57,7 @@ returns-then-not-fill c =
     let below = c.loop-k-test.true in
     let at = c.loop-k in
     record {
-      answer = sym (names_stop a.spec.now a.list.now a.cells.now a.area.now (head_of a.h) a.next a.named.now c.requires at.k below at.named at.invariant (tested (goal.at.returns-then-not-fill c).After-fill ∙ c.if-not-fill.true));
+      answer = sym (names_stop a.list.now.area.now a.list.now a.call.now.cells.now a.call.now.area.now (head_of a.call.now.head) a.next a.named.now c.requires at.k below at.named at.invariant (tested (goal.at.returns-then-not-fill c).After-fill ∙ c.if-not-fill.true));
       counts = λ e. absurd (false≢true e);
     }
 
@@ -71,16 +68,16 @@ loop-k-preserved c =
     let at = c.loop-k in
     let yes_free : c.fill.result ≡ true = c.if-not-fill.false in
     rw (c.fill.ensures.named yes_free, found_there (goal.at.loop-k-preserved c).After-fill)
-    (names_more a.spec.now a.list.now a.cells.now a.area.now (head_of a.h) a.next a.named.now c.requires at.k below at.named at.invariant (tested (goal.at.loop-k-preserved c).After-fill ∙ yes_free))
+    (names_more a.list.now.area.now a.list.now a.call.now.cells.now a.call.now.area.now (head_of a.call.now.head) a.next a.named.now c.requires at.k below at.named at.invariant (tested (goal.at.loop-k-preserved c).After-fill ∙ yes_free))
 
 pub returns : goal.returns
 returns c =
     let a = c.args in
     let at = c.loop-k in
-    let whole : at.k ≡ a.h.n = omega arith in
-    let done : Counted (parameters_in a.spec.now a.list.now.params) a.next (written_in a.area.now a.cells.now (head_of a.h)) at.named =
-    subst (λ n. Counted (parameters_in a.spec.now a.list.now.params) a.next (bytes_from a.area.now a.cells.now (named_from (head_of a.h)) 0 n) at.named) whole at.invariant in
+    let whole : at.k ≡ a.call.now.head.n = omega arith in
+    let done : Counted (parameters_in a.list.now.area.now a.list.now.params) a.next (written_in a.call.now.area.now a.call.now.cells.now (head_of a.call.now.head)) at.named =
+    subst (λ n. Counted (parameters_in a.list.now.area.now a.list.now.params) a.next (bytes_from a.call.now.area.now a.call.now.cells.now (named_from (head_of a.call.now.head)) 0 n) at.named) whole at.invariant in
     record {
-      answer = sym (names_end a.spec.now a.list.now a.cells.now a.area.now (head_of a.h) a.next a.named.now c.requires at.named done);
+      answer = sym (names_end a.list.now.area.now a.list.now a.call.now.cells.now a.call.now.area.now (head_of a.call.now.head) a.next a.named.now c.requires at.named done);
       counts = λ e. done.counts;
     }

@@ -8,4 +8,4 @@ use Rattle.can_fill.proofs.fill_names.Given as goal
 
 abbrev pub invariant-loop-k : goal.invariant-loop-k
 invariant-loop-k l =
-    Counted (parameters_in l.spec l.params) l.next (bytes_from l.area l.cells (named_from (head_of l.fn.h)) 0 l.k) l.named
+    Counted (parameters_in l.list.area.now l.list.params) l.next (bytes_from l.call.area.now l.call.cells.now (named_from (head_of l.call.head)) 0 l.k) l.named

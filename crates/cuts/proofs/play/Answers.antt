@@ -20,7 +20,7 @@ fitting c = let a = c.args in sizes_fit a.positionals.now a.named.now (cut_of a.
 pub returns-then-not-sizes_right : goal.returns-then-not-sizes_right
 returns-then-not-sizes_right c =
     let a = c.args in
-    play_outside a.spec_cells.now a.spec.now a.positionals.now a.named.now a.area.now (cut_of a.cut) a.board.now
+    play_outside a.spec.now.cells.now a.spec.now.area.now a.positionals.now a.named.now a.area.now (cut_of a.cut) a.board.now
     (sym c.sizes_right.ensures ∙ c.if-not-sizes_right.true)
 
 pub returns : goal.returns
@@ -28,7 +28,7 @@ returns c =
     let a = c.args in
     let p = a.positionals.now in
     let n = a.named.now in
-    play_tried a.spec_cells.now a.spec.now p n a.area.now (cut_of a.cut) a.board.now (sized (goal.at.returns c).Else-not-sizes_right)
+    play_tried a.spec.now.cells.now a.spec.now.area.now p n a.area.now (cut_of a.cut) a.board.now (sized (goal.at.returns c).Else-not-sizes_right)
     (take (6 + length p + length n) c.write_cut.new.out) (take (6 + length p + length n) c.write_cut-2.new.out)
     c.try_cut.new.board c.try_cut.result
     (part_cells p n (whole_cut p n) (whole_fits p n (cut_of a.cut) (fitting (goal.at.returns c).Else-not-sizes_right)) _ c.write_cut.new.out c.write_cut.ensures ∙ whole_cells p n)

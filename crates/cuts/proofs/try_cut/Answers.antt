@@ -26,6 +26,6 @@ returns c =
       outside = λ z. none_some (sym z);
       untouched = λ z. none_some (sym z);
       passed = λ t z. sym c.records_pass.ensures ∙ c.if-not-records_pass.false;
-      collected = λ t z. subst (λ u. Ends (collection 64 64 a.spec_cells.now a.spec.now a.cells.now a.area.now a.board.now) a.board.now o.new.board u.collected) (some_one z) o.ensures;
-      filling = λ t z. subst (λ u. filling_in u.foretold ≡ fillable 64 64 a.spec_cells.now a.spec.now a.whole.now a.area.now) (some_one z) f.ensures;
+      collected = λ t z. subst (λ u. Ends (collection 64 64 a.spec.now.cells.now a.spec.now.area.now a.cells.now a.whole.now.area.now a.board.now) a.board.now o.new.board u.collected) (some_one z) o.ensures;
+      filling = λ t z. subst (λ u. filling_in u.foretold ≡ fillable 64 64 a.spec.now.cells.now a.spec.now.area.now a.whole.now.cells.now a.whole.now.area.now) (some_one z) f.ensures;
     }

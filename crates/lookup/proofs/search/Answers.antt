@@ -11,23 +11,23 @@ use Rattle.lookup.proofs.search.Goals.{In-candidates}
 missed
     : (c : In-candidates)
     → let a = c.args in
-    let p = a.params.now in
+    let p = a.list.now.params in
     let at = c.candidates.at in
-    fits a.area.now a.name.now (get_or p.codes at 0) (get_or p.styles at 0) (get_or p.names at 0) ≡ false
-    → first_at (fits_at a.area.now p a.name.now) a.from (a.to - a.from)
-    ≡ first_at (fits_at a.area.now p a.name.now) (at + 1) (a.to - (at + 1))
+    fits a.list.now.area.now a.name.now (get_or p.codes at 0) (get_or p.styles at 0) (get_or p.names at 0) ≡ false
+    → first_at (fits_at a.list.now.area.now p a.name.now) a.from (a.to - a.from)
+    ≡ first_at (fits_at a.list.now.area.now p a.name.now) (at + 1) (a.to - (at + 1))
 unfolding fits_at
 missed c e =
     let a = c.args in
-    c.candidates.invariant ∙ first_at_miss (fits_at a.area.now a.params.now a.name.now) c.candidates.at a.to c.candidates-test.true e
+    c.candidates.invariant ∙ first_at_miss (fits_at a.list.now.area.now a.list.now.params a.name.now) c.candidates.at a.to c.candidates-test.true e
 
 pub candidates-preserved-then-name-size : goal.candidates-preserved-then-name-size
 candidates-preserved-then-name-size c =
     missed (goal.at.candidates-preserved-then-name-size c).In-candidates (fits_size _ _ _ _ _ c.if-name-size.true)
 
-pub candidates-preserved-then-not-nameable : goal.candidates-preserved-then-not-nameable
-candidates-preserved-then-not-nameable c =
-    missed (goal.at.candidates-preserved-then-not-nameable c).In-candidates (fits_style _ _ _ _ _ (sym c.nameable.ensures ∙ c.if-not-nameable.true))
+pub candidates-preserved-then-not-nameable_at : goal.candidates-preserved-then-not-nameable_at
+candidates-preserved-then-not-nameable_at c =
+    missed (goal.at.candidates-preserved-then-not-nameable_at c).In-candidates (fits_style _ _ _ _ _ (sym c.nameable_at.ensures ∙ c.if-not-nameable_at.true))
 
 pub candidates-preserved-then-start-gt65535 : goal.candidates-preserved-then-start-gt65535
 candidates-preserved-then-start-gt65535 c =
@@ -40,7 +40,7 @@ candidates-preserved-then-area-start c =
 pub candidates-preserved : goal.candidates-preserved
 candidates-preserved c =
     missed (goal.at.candidates-preserved c).In-candidates
-    (fits_bytes _ _ _ _ _ (sym c.nameable.ensures ∙ c.if-not-nameable.false) c.if-start-gt65535.false c.if-area-start.false
+    (fits_bytes _ _ _ _ _ (sym c.nameable_at.ensures ∙ c.if-not-nameable_at.false) c.if-start-gt65535.false c.if-area-start.false
     ∙ c.loop-j.invariant
     ∙ bytes_differ _ _ _ _ c.loop-j.j c.if-area-start.false c.if-name-size.false c.loop-j-test.true c.if-name-j.true)
 
@@ -54,7 +54,7 @@ returns-in-candidates c =
     let a = c.args in
     sym
     (c.candidates.invariant
-    ∙ first_at_hit (fits_at a.area.now a.params.now a.name.now) c.candidates.at a.to c.candidates-test.true
-    (fits_bytes _ _ _ _ _ (sym c.nameable.ensures ∙ c.if-not-nameable.false) c.if-start-gt65535.false c.if-area-start.false
+    ∙ first_at_hit (fits_at a.list.now.area.now a.list.now.params a.name.now) c.candidates.at a.to c.candidates-test.true
+    (fits_bytes _ _ _ _ _ (sym c.nameable_at.ensures ∙ c.if-not-nameable_at.false) c.if-start-gt65535.false c.if-area-start.false
     ∙ c.loop-j.invariant
     ∙ bytes_end _ _ _ _ c.loop-j.j c.if-area-start.false c.if-name-size.false c.loop-j-test.false))

@@ -10,8 +10,8 @@ use Rattle.lookup.proofs.search.Given as goal
 
 abbrev pub invariant-loop-j : goal.invariant-loop-j
 invariant-loop-j l =
-    same_bytes l.name (take l.size (drop l.start l.area)) ≡ same_bytes (drop l.j l.name) (drop l.j (take l.size (drop l.start l.area)))
+    same_bytes l.name (take l.size (drop l.start l.list.area.now)) ≡ same_bytes (drop l.j l.name) (drop l.j (take l.size (drop l.start l.list.area.now)))
 
 abbrev pub invariant-candidates : goal.invariant-candidates
 invariant-candidates l =
-    first_at (fits_at l.area l.params l.name) l.from (l.to - l.from) ≡ first_at (fits_at l.area l.params l.name) l.at (l.to - l.at)
+    first_at (fits_at l.list.area.now l.list.params l.name) l.from (l.to - l.from) ≡ first_at (fits_at l.list.area.now l.list.params l.name) l.at (l.to - l.at)

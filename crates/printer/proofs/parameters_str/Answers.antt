@@ -5,22 +5,22 @@ use Rattle.printer.proofs.parameters_str.Goals as goal
 
 pub returns-in_err-list : goal.returns-in_err-list
 returns-in_err-list c =
-    let a = c.args in
+    let r = c.args.«record».now in
     let p = err_from_is_err_and c.from_residual.result c.from_residual.ensures.1 in
-    rw (p.1, p.2) (print_refused a.cells.now a.area.now a.out.now _ c.build.ensures _ c.in_err-list.was)
+    rw (p.1, p.2) (print_refused r.cells.now r.area.now c.args.out.now _ c.build.ensures _ c.in_err-list.was)
 
 pub returns-then-out-lt-PRINTED : goal.returns-then-out-lt-PRINTED
 returns-then-out-lt-PRINTED c =
-    let a = c.args in
-    print_short a.cells.now a.area.now a.out.now _ c.build.ensures c.in_ok-list.list c.in_ok-list.was c.if-out-lt-PRINTED.true
+    let r = c.args.«record».now in
+    print_short r.cells.now r.area.now c.args.out.now _ c.build.ensures c.in_ok-list.list c.in_ok-list.was c.if-out-lt-PRINTED.true
 
 pub write_list-requires : goal.write_list-requires
 write_list-requires c =
-    let a = c.args in
-    list_ready a.cells.now a.area.now a.out.now _ c.build.ensures c.in_ok-list.list c.in_ok-list.was c.if-out-lt-PRINTED.false
+    let r = c.args.«record».now in
+    list_ready r.cells.now r.area.now c.args.out.now _ c.build.ensures c.in_ok-list.list c.in_ok-list.was c.if-out-lt-PRINTED.false
 
 pub returns : goal.returns
 returns c =
-    let a = c.args in
-    print_list a.cells.now a.area.now a.out.now _ c.build.ensures c.in_ok-list.list c.in_ok-list.was c.if-out-lt-PRINTED.false
+    let r = c.args.«record».now in
+    print_list r.cells.now r.area.now c.args.out.now _ c.build.ensures c.in_ok-list.list c.in_ok-list.was c.if-out-lt-PRINTED.false
     c.write_list.new.out c.write_list.result c.write_list.ensures

@@ -1,83 +1,78 @@
 -- `printer::write_named` meets its contract: three runs of items in a row. Assumes nothing.
-use mathlib.Core.Path.{refl, sym, ◌∙◌}
-use mathlib.Core.Bool.{Bool, cond}
-use mathlib.Core.List.{List, [], ◌∷◌}
+use mathlib.Core.Path.{◌≡◌, refl, sym, ◌∙◌}
+use mathlib.Core.List.{List, ◌++◌}
 use Prim.Native.Nat.{ℕ}
+use Rattle.std.specs.Prelude.{option_copied, option_to_list}
 use Rattle.rules.specs.Parameters.{comes_before, named_only}
-use Rattle.rules.specs.Printed.{items_of}
+use Rattle.rules.specs.Printed.{items_of, star_item, kwargs_item}
 use Rattle.builder.specs.Params.{parameters_in}
 use Rattle.printer.specs.Items.{under}
-use Rattle.printer.specs.Printed.{star_for}
-use Rattle.printer.proofs.LawsLine.{three_first, three_second, three_third, three_added, added_same}
-use Rattle.printer.proofs.LawsList.{given_args, given_kwargs, named_parts, named_room}
+use Rattle.printer.specs.Line.{Room}
+use Rattle.printer.proofs.LawsLine.{room_same, three_first, three_second, three_third, three_added, added_same}
+use Rattle.printer.proofs.LawsList.{given_args, given_kwargs, star_sign, kwargs_sign, named_parts}
 use Rattle.printer.proofs.write_named.Goals as goal
+use Rattle.printer.proofs.write_named.Goals.{After-or}
 
--- the sign at the end
-abbrev Zs : Bool → List (List ℕ)
-Zs kwargs = cond kwargs ((42 ∷ 42 ∷ 107 ∷ 119 ∷ 97 ∷ 114 ∷ 103 ∷ 115 ∷ []) ∷ []) []
+-- the signs in front and at the end
+abbrev Xs : After-or → List (List ℕ)
+Xs k = option_to_list (option_copied k.or.result)
 
-pub any_item-keywords-requires : goal.any_item-keywords-requires
+abbrev Zs : After-or → List (List ℕ)
+Zs k = option_to_list (option_copied k.then_some-kwargs.result)
+
+star : (k : After-or) → let l = k.args.list.now in Xs k ≡ star_item (parameters_in l.area.now l.params)
+star k =
+    let l = k.args.list.now in
+    let qs = parameters_in l.area.now l.params in
+    star_sign _ _ _ _ _ _ _ qs k.or.ensures k.then_some-args.ensures k.then_some-bare.ensures refl refl
+    (k.is_some.ensures ∙ given_args l.indices.args qs k.requires.args) (k.any_item.ensures l.area.now)
+
+kwargs : (k : After-or) → let l = k.args.list.now in Zs k ≡ kwargs_item (parameters_in l.area.now l.params)
+kwargs k =
+    let l = k.args.list.now in
+    let qs = parameters_in l.area.now l.params in
+    kwargs_sign _ _ _ qs k.then_some-kwargs.ensures refl (k.is_some-2.ensures ∙ given_kwargs l.indices.kwargs qs k.requires.kwargs)
+
+room : (k : After-or) → let qs = parameters_in k.args.list.now.area.now k.args.list.now.params in
+    Room (Xs k ++ (items_of (under named_only) qs ++ Zs k)) k.args.line.now
+room k =
+    let qs = parameters_in k.args.list.now.area.now k.args.list.now.params in
+    room_same _ _ k.args.line.now (named_parts (Xs k) (Zs k) qs (star k) (kwargs k)) k.requires.room
+
+pub any_item-requires : goal.any_item-requires
 unfolding comes_before
-any_item-keywords-requires c = (c.requires.count, refl)
-
-pub write_star-star-requires : goal.write_star-star-requires
-write_star-star-requires c =
-    let a = c.args in
-    let qs = parameters_in a.area.now a.list.now.params in
-    let args = c.is_some-args.result in
-    let kwargs = c.is_some-kwargs.result in
-    let keywords = c.any_item-keywords.result in
-    let has_args_lem = c.is_some-args.ensures ∙ given_args a.list.now.indices.args qs c.requires.args in
-    let has_kwargs_lem = c.is_some-kwargs.ensures ∙ given_kwargs a.list.now.indices.kwargs qs c.requires.kwargs in
-    let Has-named = c.any_item-keywords.ensures a.area.now in
-    let room = named_room args kwargs keywords qs a.line a.out.now has_args_lem has_kwargs_lem Has-named c.requires.room in
-    three_first (star_for args keywords) (items_of (under named_only) qs) (Zs kwargs) a.line a.out.now room
-
-pub write_items-named-requires : goal.write_items-named-requires
-unfolding comes_before
-write_items-named-requires c =
-    let a = c.args in
-    let qs = parameters_in a.area.now a.list.now.params in
-    let args = c.is_some-args.result in
-    let kwargs = c.is_some-kwargs.result in
-    let keywords = c.any_item-keywords.result in
-    let has_args_lem = c.is_some-args.ensures ∙ given_args a.list.now.indices.args qs c.requires.args in
-    let has_kwargs_lem = c.is_some-kwargs.ensures ∙ given_kwargs a.list.now.indices.kwargs qs c.requires.kwargs in
-    let Has-named = c.any_item-keywords.ensures a.area.now in
-    let room = named_room args kwargs keywords qs a.line a.out.now has_args_lem has_kwargs_lem Has-named c.requires.room in
-    let one = c.write_star-star in
-    (c.requires.count, refl, three_second (star_for args keywords) (items_of (under named_only) qs) (Zs kwargs) a.line a.out.now room one.new.out one.result one.ensures)
+any_item-requires c = (c.requires.count, refl)
 
 pub write_sign-requires : goal.write_sign-requires
 write_sign-requires c =
-    let a = c.args in
-    let qs = parameters_in a.area.now a.list.now.params in
-    let args = c.is_some-args.result in
-    let kwargs = c.is_some-kwargs.result in
-    let keywords = c.any_item-keywords.result in
-    let has_args_lem = c.is_some-args.ensures ∙ given_args a.list.now.indices.args qs c.requires.args in
-    let has_kwargs_lem = c.is_some-kwargs.ensures ∙ given_kwargs a.list.now.indices.kwargs qs c.requires.kwargs in
-    let Has-named = c.any_item-keywords.ensures a.area.now in
-    let room = named_room args kwargs keywords qs a.line a.out.now has_args_lem has_kwargs_lem Has-named c.requires.room in
-    let one = c.write_star-star in
-    let two = c.write_items-named in
-    three_third (star_for args keywords) (items_of (under named_only) qs) (Zs kwargs) a.line a.out.now room one.new.out one.result one.ensures
-    two.new.out two.result two.ensures
+    let k = (goal.at.write_sign-requires c).After-or in
+    let qs = parameters_in c.args.list.now.area.now c.args.list.now.params in
+    three_first (Xs k) (items_of (under named_only) qs) (Zs k) c.args.line.now (room k)
+
+pub write_items-requires : goal.write_items-requires
+unfolding comes_before
+write_items-requires c =
+    let k = (goal.at.write_items-requires c).After-or in
+    let qs = parameters_in c.args.list.now.area.now c.args.list.now.params in
+    let one = c.write_sign in
+    (c.requires.count, refl, three_second (Xs k) (items_of (under named_only) qs) (Zs k) c.args.line.now (room k) one.new.self one.ensures)
+
+pub write_sign-requires-2 : goal.write_sign-requires-2
+write_sign-requires-2 c =
+    let k = (goal.at.write_sign-requires-2 c).After-or in
+    let qs = parameters_in c.args.list.now.area.now c.args.list.now.params in
+    let one = c.write_sign in
+    let two = c.write_items in
+    three_third (Xs k) (items_of (under named_only) qs) (Zs k) c.args.line.now (room k) one.new.self one.ensures
+    two.new.line two.ensures
 
 pub returns : goal.returns
 returns c =
-    let a = c.args in
-    let qs = parameters_in a.area.now a.list.now.params in
-    let args = c.is_some-args.result in
-    let kwargs = c.is_some-kwargs.result in
-    let keywords = c.any_item-keywords.result in
-    let has_args_lem = c.is_some-args.ensures ∙ given_args a.list.now.indices.args qs c.requires.args in
-    let has_kwargs_lem = c.is_some-kwargs.ensures ∙ given_kwargs a.list.now.indices.kwargs qs c.requires.kwargs in
-    let Has-named = c.any_item-keywords.ensures a.area.now in
-    let room = named_room args kwargs keywords qs a.line a.out.now has_args_lem has_kwargs_lem Has-named c.requires.room in
-    let one = c.write_star-star in
-    let two = c.write_items-named in
-    let three = c.write_sign in
-    added_same _ _ (sym (named_parts args kwargs keywords qs has_args_lem has_kwargs_lem Has-named))
-    (three_added (star_for args keywords) (items_of (under named_only) qs) (Zs kwargs) a.line a.out.now room one.new.out one.result one.ensures
-    two.new.out two.result two.ensures three.new.out three.result three.ensures)
+    let k = (goal.at.returns c).After-or in
+    let qs = parameters_in c.args.list.now.area.now c.args.list.now.params in
+    let one = c.write_sign in
+    let two = c.write_items in
+    let three = c.write_sign-2 in
+    added_same _ _ (sym (named_parts (Xs k) (Zs k) qs (star k) (kwargs k)))
+    (three_added (Xs k) (items_of (under named_only) qs) (Zs k) c.args.line.now (room k) one.new.self one.ensures
+    two.new.line two.ensures three.new.self three.ensures)

@@ -10,9 +10,10 @@ use Rattle.sheet_judge.proofs.judge_input.Goals as goal
 pub returns-then-input-gt-LONGEST : goal.returns-then-input-gt-LONGEST
 returns-then-input-gt-LONGEST c = judging_long c.args.input.now c.if-input-gt-LONGEST.true
 
-pub read_parameters-requires : goal.read_parameters-requires
-unfolding input_most
-read_parameters-requires c = omega arith
+pub invariant_of-call : goal.invariant_of-call
+invariant_of-call c =
+    let p : ParametersAre c.args.input.now c.in_ok-p.p = c.in_ok-p.ensures in
+    record { within = p.steps.within }
 
 pub overflow_add-p : goal.overflow_add-p
 overflow_add-p c =
@@ -23,7 +24,7 @@ pub read_call-requires : goal.read_call-requires
 unfolding input_most
 read_call-requires c =
     let p : ParametersAre c.args.input.now c.in_ok-p.p = c.in_ok-p.ensures in
-    (p.steps.within, c.if-input-gt-LONGEST.false, omega (arith, p.steps.most))
+    omega (arith, p.steps.most)
 
 pub returns-in_err-p : goal.returns-in_err-p
 unfolding input_most

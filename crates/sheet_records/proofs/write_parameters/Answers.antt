@@ -1,32 +1,41 @@
 -- `sheet_records::write_parameters` meets its contract: `def` gives the first cell, the other rows the steps behind it.
 -- Assumes nothing.
-use mathlib.Core.Path.{◌∙◌}
-use lib.ListN.{length-set}
+use mathlib.Core.Path.{◌≡◌}
+use mathlib.Core.List.{◌∷◌}
+use native.Mathlib.Omega.{arith}
+use borrow.Author.Rules.{rules}
 use Rattle.sheet_lines.specs.Header.{columns_of}
-use Rattle.sheet_records.proofs.LawsWritten.{ahead_steps, text_steps, steps_room, parameters_written}
-use Rattle.sheet_records.proofs.LawsRows.{ahead_first}
+use Rattle.sheet_lines.specs.Row.{row_of}
+use Rattle.sheet_records.specs.Rows.{rows_from}
+use Rattle.sheet_records.specs.RowsLeft.{rows_left}
+use Rattle.sheet_records.proofs.LawsLeft.{put_lent}
+use Rattle.sheet_records.proofs.LawsWritten.{texts_room, steps_room, parameters_written}
+use Rattle.sheet_records.proofs.LawsRows.{rows_length, row_there}
 use Rattle.sheet_records.proofs.write_parameters.Goals as goal
+use Rattle.sheet_records.proofs.write_parameters.Goals.{After-unwrap-def}
 
-pub row_at-first-requires : goal.row_at-first-requires
-row_at-first-requires c =
+pub unwrap-def-requires : goal.unwrap-def-requires
+unwrap-def-requires c =
     let a = c.args in
-    ahead_first a.input.now (columns_of a.columns) a.from a.rows c.requires.some_row c.requires.ahead
+    row_there _ _ c.next.result c.next.ensures.steps (omega (arith, rows_length a.input.now (columns_of a.columns) a.from a.rows c.requires.ahead, c.requires.some_row))
 
-pub write_rows-written-requires : goal.write_rows-written-requires
-write_rows-written-requires c =
-    let ready = c.requires in
-    let r = c.row_at-first.result in (
-      ahead_steps ready r c.row_at-first.ensures,
-      text_steps ready r c.row_at-first.ensures c.texts_len-text.result c.texts_len-text.ensures,
-      steps_room ready r c.row_at-first.ensures c.texts_len-text.result c.payload_of.result c.texts_len-text.ensures c.payload_of.ensures,
+-- `def` was read
+read : (c : After-unwrap-def) → let a = c.args in rows_from a.input.now (columns_of a.columns) a.from a.rows ≡ row_of c.unwrap-def.result ∷ rows_left c.next.new.self
+read c = rw c.unwrap-def.ensures at c.next.ensures.steps
+
+pub write_rows-requires : goal.write_rows-requires
+write_rows-requires c =
+    let r = read (goal.at.write_rows-requires c).After-unwrap-def in
+    let start = c.new-run.ensures in (
+      texts_room c.requires _ _ r c.texts_len-text.result c.texts_len-text.ensures,
+      rw (start.next, start.held) (steps_room c.requires _ _ r c.texts_len-text.result c.payload_of.result c.texts_len-text.ensures c.payload_of.ensures),
     )
-
-pub shape_of-cells : goal.shape_of-cells
-shape_of-cells c =
-    c.write_rows-written.auto.cells ∙ simp length-set
 
 pub returns : goal.returns
 returns c =
-    parameters_written c.requires c.row_at-first.result c.row_at-first.ensures
+    let start = c.new-run.ensures in
+    let more = c.write_rows.ensures in
+    parameters_written c.requires _ _ (read (goal.at.returns c).After-unwrap-def)
     c.texts_len-text.result c.payload_of.result c.texts_len-text.ensures c.payload_of.ensures
-    c.write_rows-written.new.cells c.write_texts-bytes.new.area c.write_rows-written.result c.write_texts-bytes.result c.write_rows-written.ensures c.write_texts-bytes.ensures
+    _ c.write_texts-bytes.new.area _ c.write_texts-bytes.result
+    (put_lent start.held start.next (search (rules, more.same_reference, start.same_reference)) more.put) c.write_texts-bytes.ensures

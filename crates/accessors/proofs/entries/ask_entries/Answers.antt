@@ -12,8 +12,8 @@ use Rattle.accessors.proofs.entries.ask_entries.Goals as goal
 pub loop-k-init : goal.loop-k-init
 loop-k-init c =
     let a = c.args in
-    let h = head_of a.h in
-    (rw add-zero c.requires.1, ap₂ (λ n m. ask_entries [] [] (names_in a.area.now a.cells.now h n) (entries_in a.area.now a.cells.now h 0 m)) (sym (add-zero h.n)) (sym (sub-zero h.d)))
+    let h = head_of a.call.now.head in
+    (rw add-zero c.requires.1, ap₂ (λ n m. ask_entries [] [] (names_in a.call.now.area.now a.call.now.cells.now h n) (entries_in a.call.now.area.now a.call.now.cells.now h 0 m)) (sym (add-zero h.n)) (sym (sub-zero h.d)))
 
 pub overflow_add-h : goal.overflow_add-h
 overflow_add-h c =

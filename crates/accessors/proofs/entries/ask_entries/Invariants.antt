@@ -13,5 +13,5 @@ use Rattle.accessors.proofs.entries.ask_entries.Given as goal
 
 abbrev pub invariant-loop-k : goal.invariant-loop-k
 invariant-loop-k l =
-    NamesInside l.area l.cells (head_of l.h) (l.h.n + l.k)
-    × (ask_entries [] [] (names_in l.area l.cells (head_of l.h) l.h.n) (entries_in l.area l.cells (head_of l.h) 0 l.h.d) ≡ asked l.area l.cells (head_of l.h) l.k)
+    NamesInside l.call.area.now l.call.cells.now (head_of l.call.head) (l.call.head.n + l.k)
+    × (ask_entries [] [] (names_in l.call.area.now l.call.cells.now (head_of l.call.head) l.call.head.n) (entries_in l.call.area.now l.call.cells.now (head_of l.call.head) 0 l.call.head.d) ≡ asked l.call.area.now l.call.cells.now (head_of l.call.head) l.k)

@@ -14,10 +14,10 @@ use Rattle.accessors.proofs.entries.ask_name.Goals.{After-is_named}
 
 -- what was answered of the name
 tested : (c : After-is_named) → let a = c.args in
-    among (part_at a.area.now a.payload) (texts_of (names_in a.area.now a.cells.now (head_of a.h) a.count)) ≡ c.is_named.result
+    among (part_at a.call.now.area.now a.payload) (texts_of (names_in a.call.now.area.now a.call.now.cells.now (head_of a.call.now.head) a.count)) ≡ c.is_named.result
 tested c =
     let a = c.args in
-    sym (c.is_named.ensures ∙ ap (λ l. among l (texts_of (names_in a.area.now a.cells.now (head_of a.h) a.count))) c.part.ensures.bytes)
+    sym (c.is_named.ensures ∙ ap (λ l. among l (texts_of (names_in a.call.now.area.now a.call.now.cells.now (head_of a.call.now.head) a.count))) c.part.ensures.bytes)
 
 pub returns-then-is_named : goal.returns-then-is_named
 returns-then-is_named c = sym (ap (λ b. cond b (Err (Repeated c.args.payload)) (Ok tt)) (tested (goal.at.returns-then-is_named c).After-is_named ∙ c.if-is_named.true))

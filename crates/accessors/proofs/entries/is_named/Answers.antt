@@ -13,6 +13,6 @@ use Rattle.accessors.proofs.entries.is_named.Goals as goal
 pub returns : goal.returns
 returns c =
     let a = c.args in
-    any_from_yields_List (has_name a.area.now a.cells.now (head_of a.h) a.name.now) _ _ _ c.any.ensures.ran
+    any_from_yields_List (has_name a.call.now.area.now a.call.now.cells.now (head_of a.call.now.head) a.name.now) _ _ _ c.any.ensures.ran
     (YieldsList-from_range 0 a.count a.count refl (sub-zero a.count)) (λ x b q k. search (rules, tests))
-    ∙ names_any a.area.now a.cells.now (head_of a.h) a.name.now 0 a.count (λ j b. c.requires.within j (omega arith))
+    ∙ names_any a.call.now.area.now a.call.now.cells.now (head_of a.call.now.head) a.name.now 0 a.count (λ j b. c.requires.within j (omega arith))

@@ -18,7 +18,7 @@ overflow_add-h c = omega (arith, c.requires.few.few_n, c.requires.few.few_d)
 pub returns : goal.returns
 returns c =
     let a = c.args in
-    all_from_yields_List (has_text a.area.now a.cells.now (head_of a.h)) _ _ _ c.all.ensures.ran
-    (YieldsList-from_range a.h.n (a.h.n + a.h.d) a.h.d refl (omega arith)) (λ x b q k. search (rules, tests))
-    ∙ ap (λ n. list_all (has_text a.area.now a.cells.now (head_of a.h)) (range_with_len n a.h.d)) (sym (add-zero a.h.n))
-    ∙ keys_all a.area.now a.cells.now (head_of a.h) 0 a.h.d (λ j b. c.requires.formed j (omega arith))
+    all_from_yields_List (has_text a.call.now.area.now a.call.now.cells.now (head_of a.call.now.head)) _ _ _ c.all.ensures.ran
+    (YieldsList-from_range a.call.now.head.n (a.call.now.head.n + a.call.now.head.d) a.call.now.head.d refl (omega arith)) (λ x b q k. search (rules, tests))
+    ∙ ap (λ n. list_all (has_text a.call.now.area.now a.call.now.cells.now (head_of a.call.now.head)) (range_with_len n a.call.now.head.d)) (sym (add-zero a.call.now.head.n))
+    ∙ keys_all a.call.now.area.now a.call.now.cells.now (head_of a.call.now.head) 0 a.call.now.head.d (λ j b. c.requires.formed j (omega arith))

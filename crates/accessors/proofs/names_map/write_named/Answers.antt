@@ -26,12 +26,12 @@ loop-k-preserved c =
     λ area.
     c.put-in-loop-k.ensures
     ∙ ap₂ (λ b v. stored b (4 * k + 2) (value_cells v))
-    (c.put.ensures ∙ ap (λ v. stored c.loop-k.out (4 * k) (value_cells v)) (c.pair_at.ensures ∙ ap (pair_at a.cells.now) c.named_at-pair.ensures))
-    (c.pair_at-in-loop-k.ensures ∙ ap (λ p. pair_at a.cells.now (p + 2)) c.named_at-pair.ensures)
-    ∙ named_more area a.cells.now (head_of a.h) k a.out.now c.loop-k.out (c.requires.0.text k c.loop-k-test.true) (omega (arith, c.requires.1, c.loop-k-test.true)) (c.loop-k.invariant area) c.loop-k.auto.out
+    (c.put.ensures ∙ ap (λ v. stored c.loop-k.out (4 * k) (value_cells v)) (c.pair_at.ensures ∙ ap (pair_at a.call.now.cells.now) c.named_at-pair.ensures))
+    (c.pair_at-in-loop-k.ensures ∙ ap (λ p. pair_at a.call.now.cells.now (p + 2)) c.named_at-pair.ensures)
+    ∙ named_more area a.call.now.cells.now (head_of a.call.now.head) k a.out.now c.loop-k.out (c.requires.0.text k c.loop-k-test.true) (omega (arith, c.requires.1, c.loop-k-test.true)) (c.loop-k.invariant area) c.loop-k.auto.out
 
 pub returns : goal.returns
 returns c =
     let a = c.args in
     let whole : c.loop-k.k ≡ a.count = omega (arith, c.loop-k-test.false) in
-    λ area. c.loop-k.invariant area ∙ ap (λ n. stored a.out.now 0 (write_each named_cells (names_in area a.cells.now (head_of a.h) n))) whole
+    λ area. c.loop-k.invariant area ∙ ap (λ n. stored a.out.now 0 (write_each named_cells (names_in area a.call.now.cells.now (head_of a.call.now.head) n))) whole

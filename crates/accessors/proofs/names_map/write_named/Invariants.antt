@@ -12,4 +12,4 @@ use Rattle.accessors.proofs.names_map.write_named.Given as goal
 
 abbrev pub invariant-loop-k : goal.invariant-loop-k
 invariant-loop-k l =
-    (area : List ℕ) → l.out ≡ stored l.initial.out 0 (write_each named_cells (names_in area l.cells (head_of l.h) l.k))
+    (area : List ℕ) → l.out ≡ stored l.initial.out 0 (write_each named_cells (names_in area l.call.cells.now (head_of l.call.head) l.k))

@@ -21,31 +21,34 @@ returns-in_err-ask_call c =
 
 pub returns-then-h-eq2 : goal.returns-then-h-eq2
 returns-then-h-eq2 c =
-    record { answer = none_double _ _ _ c.read_head-h.ensures (sym c.in_ok-ask_call.ensures) c.if-h-eq2.true; numbered = refl }
+    record { answer = none_double _ _ _ c.new-call.ensures.head (sym c.in_ok-ask_call.ensures) c.if-h-eq2.true; numbered = refl }
 
 pub keys_are_texts-requires : goal.keys_are_texts-requires
 keys_are_texts-requires c =
-    entries_formed _ _ _ c.read_head-h.ensures (sym c.in_ok-ask_call.ensures)
+    rw (c.new-call.ensures.cells, c.new-call.ensures.area) (entries_formed _ _ _ c.new-call.ensures.head (sym c.in_ok-ask_call.ensures))
 
 pub returns-then-not-keys_are_texts : goal.returns-then-not-keys_are_texts
 returns-then-not-keys_are_texts c =
-    record { answer = none_text _ _ _ c.read_head-h.ensures (sym c.in_ok-ask_call.ensures) c.if-h-eq2.false (cc); numbered = refl }
+    let e = rw (c.new-call.ensures.cells, c.new-call.ensures.area) at c.keys_are_texts.ensures in
+    record { answer = none_text _ _ _ c.new-call.ensures.head (sym c.in_ok-ask_call.ensures) c.if-h-eq2.false (sym e ∙ c.if-not-keys_are_texts.true); numbered = refl }
 
 pub overflow_add-count : goal.overflow_add-count
 overflow_add-count c =
-    omega (arith, names_few _ _ _ c.read_head-h.ensures (sym c.in_ok-ask_call.ensures))
+    omega (arith, names_few _ _ _ c.new-call.ensures.head (sym c.in_ok-ask_call.ensures))
 
 pub returns-then-count-eq0 : goal.returns-then-count-eq0
 returns-then-count-eq0 c =
-    record { answer = none_gives _ _ _ c.read_head-h.ensures (sym c.in_ok-ask_call.ensures) c.if-h-eq2.false (cc) c.if-count-eq0.true; numbered = refl }
+    let e = rw (c.new-call.ensures.cells, c.new-call.ensures.area) at c.keys_are_texts.ensures in
+    record { answer = none_gives _ _ _ c.new-call.ensures.head (sym c.in_ok-ask_call.ensures) c.if-h-eq2.false (sym e ∙ c.if-not-keys_are_texts.false) c.if-count-eq0.true; numbered = refl }
 
 pub returns : goal.returns
 returns c =
-    let h = head_of c.read_head-h.result in
-    let a = c.args in
+    let h = head_of c.new-call.result.head in
+    let e = rw (c.new-call.ensures.cells, c.new-call.ensures.area) at c.keys_are_texts.ensures in
+    let first = rw c.new-call.ensures.cells at c.pair_at-first.ensures in
     record {
       answer =
-          ap (λ v. denied 24 (count_and_name (h.n + h.d) (place_of call_area v.payload))) (c.pair_at-first.ensures ∙ ap (pair_at a.cells.now) c.named_at.ensures)
-          ∙ none_extra _ _ _ c.read_head-h.ensures (sym c.in_ok-ask_call.ensures) c.if-h-eq2.false (cc) (h.n + h.d) refl c.if-count-eq0.false;
+          ap (λ v. denied 24 (count_and_name (h.n + h.d) (place_of call_area v.payload))) (first ∙ ap (pair_at c.args.record.now.cells.now) c.named_at.ensures)
+          ∙ none_extra _ _ _ c.new-call.ensures.head (sym c.in_ok-ask_call.ensures) c.if-h-eq2.false (sym e ∙ c.if-not-keys_are_texts.false) (h.n + h.d) refl c.if-count-eq0.false;
       numbered = refl;
     }

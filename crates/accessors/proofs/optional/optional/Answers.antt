@@ -23,15 +23,15 @@ returns-in_err-ask_writing c =
 
 pub returns-then-h-eq2 : goal.returns-then-h-eq2
 returns-then-h-eq2 c =
-    optional_star _ _ _ _ _ c.if-required-gt-MOST.false c.if-more-gt-MOST.false _ c.read_head-h.ensures (sym c.in_ok-ask_writing.ensures) c.if-h-eq2.true
+    optional_star _ _ _ _ _ c.if-required-gt-MOST.false c.if-more-gt-MOST.false _ c.new-call.ensures.head (sym c.in_ok-ask_writing.ensures) c.if-h-eq2.true
 
 pub overflow_add-got : goal.overflow_add-got
 overflow_add-got c =
-    omega (arith, values_few _ _ _ _ c.read_head-h.ensures (sym c.in_ok-ask_writing.ensures))
+    omega (arith, values_few _ _ _ _ c.new-call.ensures.head (sym c.in_ok-ask_writing.ensures))
 
 pub returns-then-got-required : goal.returns-then-got-required
 returns-then-got-required c =
-    optional_number _ _ _ _ _ c.if-required-gt-MOST.false c.if-more-gt-MOST.false _ c.read_head-h.ensures (sym c.in_ok-ask_writing.ensures) c.if-h-eq2.false
+    optional_number _ _ _ _ _ c.if-required-gt-MOST.false c.if-more-gt-MOST.false _ c.new-call.ensures.head (sym c.in_ok-ask_writing.ensures) c.if-h-eq2.false
     (elim c.then-got-required.branch [
       | then-got-required-via-then-got-required w ↦ number_few _ _ _ w.if-got-required.true
       | then-got-required-via-else-got-required+then-most-got w ↦ number_many _ _ _ w.if-most-got.true
@@ -39,18 +39,18 @@ returns-then-got-required c =
 
 pub write_values-requires : goal.write_values-requires
 write_values-requires c =
-    (omega arith, values_room _ _ _ _ c.read_head-h.ensures (sym c.in_ok-ask_writing.ensures))
+    (omega arith, values_room _ _ _ _ c.new-call.ensures.head (sym c.in_ok-ask_writing.ensures))
 
 -- what is missing has room behind P
 room : (c : After-write_values) → 2 * (c.args.required + c.args.more) ≤ length c.write_values.new.board
 room c =
     rw c.write_values.auto.board
-    (missing_room _ _ _ _ _ c.if-required-gt-MOST.false c.if-more-gt-MOST.false _ c.read_head-h.ensures (sym c.in_ok-ask_writing.ensures) c.if-h-eq2.false c.if-got-required.false c.if-most-got.false).1
+    (missing_room _ _ _ _ _ c.if-required-gt-MOST.false c.if-more-gt-MOST.false _ c.new-call.ensures.head (sym c.in_ok-ask_writing.ensures) c.if-h-eq2.false c.if-got-required.false c.if-most-got.false).1
 
 pub slice_bounds-fill-end : goal.slice_bounds-fill-end
 slice_bounds-fill-end c = room (goal.at.slice_bounds-fill-end c).After-write_values
 
 pub returns : goal.returns
 returns c =
-    optional_written _ _ _ _ _ c.if-required-gt-MOST.false c.if-more-gt-MOST.false _ c.read_head-h.ensures (sym c.in_ok-ask_writing.ensures) c.if-h-eq2.false c.if-got-required.false c.if-most-got.false _ _ c.write_values.ensures
+    optional_written _ _ _ _ _ c.if-required-gt-MOST.false c.if-more-gt-MOST.false _ c.new-call.ensures.head (sym c.in_ok-ask_writing.ensures) c.if-h-eq2.false c.if-got-required.false c.if-most-got.false _ _ (rw c.new-call.ensures.cells at c.write_values.ensures)
     (missing_filled _ _ _ _ c.if-most-got.false (room (goal.at.returns c).After-write_values) (c.fill.ensures.after (λ y e. e)))

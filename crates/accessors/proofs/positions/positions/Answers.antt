@@ -13,16 +13,16 @@ returns-in_err-ask_writing c =
 
 pub returns-then-h-eq2 : goal.returns-then-h-eq2
 returns-then-h-eq2 c =
-    positions_star _ _ _ _ c.read_head-h.ensures (sym c.in_ok-ask_writing.ensures) c.if-h-eq2.true
+    positions_star _ _ _ _ c.new-call.ensures.head (sym c.in_ok-ask_writing.ensures) c.if-h-eq2.true
 
 pub overflow_add-got : goal.overflow_add-got
 overflow_add-got c =
-    omega (arith, values_few _ _ _ _ c.read_head-h.ensures (sym c.in_ok-ask_writing.ensures))
+    omega (arith, values_few _ _ _ _ c.new-call.ensures.head (sym c.in_ok-ask_writing.ensures))
 
 pub write_values-requires : goal.write_values-requires
 write_values-requires c =
-    (omega arith, values_room _ _ _ _ c.read_head-h.ensures (sym c.in_ok-ask_writing.ensures))
+    (omega arith, values_room _ _ _ _ c.new-call.ensures.head (sym c.in_ok-ask_writing.ensures))
 
 pub returns : goal.returns
 returns c =
-    positions_written _ _ _ _ c.read_head-h.ensures (sym c.in_ok-ask_writing.ensures) c.if-h-eq2.false _ c.write_values.ensures
+    positions_written _ _ _ _ c.new-call.ensures.head (sym c.in_ok-ask_writing.ensures) c.if-h-eq2.false _ (rw c.new-call.ensures.cells at c.write_values.ensures)

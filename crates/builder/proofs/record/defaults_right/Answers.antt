@@ -15,8 +15,9 @@ use Rattle.builder.proofs.record.defaults_right.Goals as goal
 pub returns : goal.returns
 unfolding defaults_right step_of
 returns c =
-    let area = c.args.area.now in
-    let cells = c.args.cells.now in
+    let a = c.args.«record».now in
+    let area = a.area.now in
+    let cells = a.cells.now in
     all_from_yields_List (λ k. uses_right area (act (step_at cells k)) (step_at cells k).name (step_at cells k).default) _ _ _ c.all.ensures.ran
     (YieldsList-from_range 0 (step_count cells) (step_count cells) (cc) (omega arith))
     (λ x b q k. search (rules, tests))

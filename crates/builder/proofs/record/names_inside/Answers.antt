@@ -12,12 +12,12 @@ use Rattle.builder.proofs.record.names_inside.Goals as goal
 
 pub returns-else-is_name : goal.returns-else-is_name
 returns-else-is_name c =
-    let a = c.args in
+    let a = c.args.«record».now in
     c.if-is_name.false ∙ function_not a.area.now a.cells.now c.cell.ensures c.is_name.ensures c.if-is_name.false
 
 pub returns-then-is_name : goal.returns-then-is_name
 returns-then-is_name c =
-    let a = c.args in
+    let a = c.args.«record».now in
     let area = a.area.now in
     let cells = a.cells.now in
     all_from_yields_List (λ k. step_name area (step_at cells k)) _ _ _ c.all.ensures.ran

@@ -1,10 +1,12 @@
 use mathlib.Core.Path.{◌≡◌, sym, ap₂, ◌∙◌}
+use mir.Syntax.{w64}
+use mir.Val.{Fits}
 use Prim.Native.Nat.{◌+◌, ◌-◌, ◌*◌, ◌<◌}
 use native.Mathlib.Omega.{arith}
-use Rattle.rules.specs.CallRecord.{pair_width}
+use Rattle.rules.specs.CallRecord.{pair_width, key_in}
 use Rattle.rules.specs.CallQuestions.{same_key}
+use Rattle.cells.specs.Value.{pair_of}
 use Rattle.calls.specs.Runs.{key_there}
-use Rattle.calls.specs.Keys.{same_read}
 use Rattle.calls.proofs.LawsEach.{formed_first, formed_next}
 use Rattle.calls.proofs.LawsForm.{entry_key}
 use Rattle.calls.proofs.LawsKeys.{same_keys, new_passes, new_fails}
@@ -13,11 +15,16 @@ use Rattle.calls.proofs.differ.key_new.Goals.{After-same_read}
 
 -- the key and the one that it is held against
 same : (c : After-same_read) → let a = c.args in
-    c.same_read.result ≡ same_key (key_there a.area.now a.cells.now a.key) (key_there a.area.now a.cells.now (a.key + 4 + 4 * c.loop-k.k))
+    c.same_read.result ≡ same_key (key_there a.record.now.area.now a.record.now.cells.now a.key) (key_there a.record.now.area.now a.record.now.cells.now (a.key + 4 + 4 * c.loop-k.k))
 same c =
+    let area = c.args.record.now.area.now in
+    let here : Fits w64 c.pair_at-here.result.payload = omega arith in
+    let there : Fits w64 c.pair_at.result.payload = omega arith in
     c.same_read.ensures
-    ∙ ap₂ (same_read c.args.area.now) c.key_at-here.ensures c.key_at.ensures
-    ∙ same_keys _ _ c.type_inv.cells c.args.key _ c.requires.0 (entry_key _ _ _ (formed_first _ _ _ _ (omega (arith, c.loop-k-test.true)) c.loop-k.invariant.0))
+    ∙ same_keys area (pair_of c.pair_at-here.result) (pair_of c.pair_at.result) here there
+    (rw c.pair_at-here.ensures c.requires.0)
+    (rw c.pair_at.ensures (entry_key _ _ _ (formed_first _ _ _ _ (omega (arith, c.loop-k-test.true)) c.loop-k.invariant.0)))
+    ∙ ap₂ (λ v w. same_key (key_in area v) (key_in area w)) c.pair_at-here.ensures c.pair_at.ensures
 
 pub returns-then-same_read : goal.returns-then-same_read
 unfolding pair_width

@@ -10,5 +10,5 @@ use Rattle.calls.proofs.differ.key_new.Given as goal
 
 abbrev pub invariant-loop-k : goal.invariant-loop-k
 invariant-loop-k l =
-    Formed (well_formed_entry l.area) l.cells (l.first + 4 * l.k) (l.count - l.k)
-    × (new_at l.area l.cells l.key l.first l.count ≡ new_at l.area l.cells l.key (l.first + 4 * l.k) (l.count - l.k))
+    Formed (well_formed_entry l.record.area.now) l.record.cells.now (l.first + 4 * l.k) (l.count - l.k)
+    × (new_at l.record.area.now l.record.cells.now l.key l.first l.count ≡ new_at l.record.area.now l.record.cells.now l.key (l.first + 4 * l.k) (l.count - l.k))

@@ -1,5 +1,5 @@
 use mathlib.Core.Path.{◌≡◌, sym, ap, subst, ◌∙◌}
-use mathlib.Core.Bool.{true}
+use mathlib.Core.Bool.{Bool, true, false}
 use Prim.Native.Nat.{ℕ, ◌+◌, ◌-◌, ◌*◌, ◌<◌}
 use native.Mathlib.Nat.{sub-zero}
 use native.Mathlib.Omega.{arith}
@@ -15,7 +15,7 @@ use Rattle.calls.proofs.differ.keys_differ.Goals.{In-loop-behind, After-key_slot
 
 pub loop-behind-init : goal.loop-behind-init
 unfolding slots
-loop-behind-init c = rw sub-zero (walked_start _ _ _ _ _ (length-replicate {A = ℕ} 929 0))
+loop-behind-init c = rw sub-zero (walked_start _ _ _ _ _ (length-replicate {A = Bool} 929 false))
 
 pub overflow_mul-at : goal.overflow_mul-at
 unfolding pair_width
@@ -42,7 +42,7 @@ below : (c : After-key_slot-slot) → c.key_slot-slot.result < 929
 unfolding slots pair_width
 below c =
     let a = c.args in
-    subst (λ (n : ℕ). n < 929) (sym c.key_slot-slot.ensures) (slot_below (key_there a.area.now a.cells.now (a.from + pair_width * (a.count - c.loop-behind.behind - 1))))
+    subst (λ (n : ℕ). n < 929) (sym c.key_slot-slot.ensures) (slot_below (key_there a.record.now.area.now a.record.now.cells.now (a.from + pair_width * (a.count - c.loop-behind.behind - 1))))
 
 pub bounds-marks-slot : goal.bounds-marks-slot
 bounds-marks-slot c = below (goal.at.bounds-marks-slot c).After-key_slot-slot
@@ -59,13 +59,13 @@ key_new-requires c =
     let at = a.from + 4 * (a.count - c.loop-behind.behind - 1) in
     let e = rest a.count c.loop-behind.behind c.loop-behind-test.true in (
       entry_key _ _ _ (formed_last _ _ _ _ _ left few c.requires),
-      subst (Formed (well_formed_entry a.area.now) a.cells.now (at + 4)) e (formed_behind _ _ _ _ _ left few c.requires),
-      λ free. subst (λ n. new_key (key_there a.area.now a.cells.now at) (keys_at a.area.now a.cells.now (at + 4) n) ≡ true) e (walked_new _ _ _ _ _ _ left c.loop-behind.invariant (sym (ap (mark c.loop-behind.marks) c.key_slot-slot.ensures) ∙ free)),
+      subst (Formed (well_formed_entry a.record.now.area.now) a.record.now.cells.now (at + 4)) e (formed_behind _ _ _ _ _ left few c.requires),
+      λ free. subst (λ n. new_key (key_there a.record.now.area.now a.record.now.cells.now at) (keys_at a.record.now.area.now a.record.now.cells.now (at + 4) n) ≡ true) e (walked_new _ _ _ _ _ _ left c.loop-behind.invariant (sym (ap (mark c.loop-behind.marks) c.key_slot-slot.ensures) ∙ free)),
     )
 
 -- what was answered for the key, with how many are left in place of how many are behind
 answered : (c : After-key_new) → let a = c.args in let left = a.count - c.loop-behind.behind in
-    c.key_new.result ≡ new_key (key_there a.area.now a.cells.now (a.from + pair_width * (left - 1))) (keys_at a.area.now a.cells.now (a.from + pair_width * (left - 1) + pair_width) (a.count - left))
+    c.key_new.result ≡ new_key (key_there a.record.now.area.now a.record.now.cells.now (a.from + pair_width * (left - 1))) (keys_at a.record.now.area.now a.record.now.cells.now (a.from + pair_width * (left - 1) + pair_width) (a.count - left))
 unfolding pair_width
 answered c = rw (rest c.args.count c.loop-behind.behind c.loop-behind-test.true) c.key_new.ensures
 
@@ -80,6 +80,6 @@ loop-behind-preserved c =
     let a = c.args in
     let places = goal.at.loop-behind-preserved c in
     let left : a.count - (c.loop-behind.behind + 1) ≡ a.count - c.loop-behind.behind - 1 = omega arith in
-    subst (λ (slot : ℕ). Walked a.area.now a.cells.now (set c.loop-behind.marks slot 1) a.from a.count (a.count - (c.loop-behind.behind + 1)))
+    subst (λ (slot : ℕ). Walked a.record.now.area.now a.record.now.cells.now (set c.loop-behind.marks slot true) a.from a.count (a.count - (c.loop-behind.behind + 1)))
     (sym c.key_slot-slot.ensures)
     (rw left (walked_next _ _ _ _ _ _ (some places.In-loop-behind) c.loop-behind.invariant (sym (answered places.After-key_new) ∙ c.if-not-key_new.false)))

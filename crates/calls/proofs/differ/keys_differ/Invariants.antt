@@ -6,4 +6,4 @@ use Rattle.calls.proofs.LawsSlots.{Walked}
 use Rattle.calls.proofs.differ.keys_differ.Given as goal
 
 abbrev pub invariant-loop-behind : goal.invariant-loop-behind
-invariant-loop-behind l = Walked l.area l.cells l.marks l.from l.count (l.count - l.behind)
+invariant-loop-behind l = Walked l.record.area.now l.record.cells.now l.marks l.from l.count (l.count - l.behind)

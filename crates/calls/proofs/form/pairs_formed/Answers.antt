@@ -7,24 +7,24 @@ use Rattle.rules.specs.CallRecord.{pair_width}
 use Rattle.calls.proofs.LawsForm.{pairs_pass, pairs_fail}
 use Rattle.calls.proofs.form.pairs_formed.Goals as goal
 
-pub run_formed-requires : goal.run_formed-requires
+pub run_formed-requires-clause-within : goal.run_formed-requires-clause-within
 unfolding pair_width
-run_formed-requires c = λ k below. omega (arith, c.requires)
+run_formed-requires-clause-within g c = λ k below. omega (arith, c.requires.within)
 
-pub run_formed-requires-then-run_formed : goal.run_formed-requires-then-run_formed
+pub values_formed-requires : goal.values_formed-requires
 unfolding pair_width
-run_formed-requires-then-run_formed c = λ k below. omega (arith, c.requires)
+values_formed-requires g c = λ k below. omega (arith, c.requires.within)
 
 pub returns-then-run_formed : goal.returns-then-run_formed
 unfolding value_width pair_width
-returns-then-run_formed c =
+returns-then-run_formed g c = λ test told.
     let a = c.args in
-    c.run_formed-then-run_formed.ensures
-    ∙ sym (pairs_pass a.role a.area.now a.cells.now a.from a.count (sym c.run_formed.ensures ∙ c.if-run_formed.true))
+    c.values_formed.ensures
+    ∙ sym (pairs_pass test a.record.now.area.now a.record.now.cells.now a.from a.count (sym (c.run_formed.ensures test told) ∙ c.if-run_formed.true))
 
 pub returns-else-run_formed : goal.returns-else-run_formed
 unfolding pair_width
-returns-else-run_formed c =
+returns-else-run_formed g c = λ test told.
     let a = c.args in
     c.if-run_formed.false
-    ∙ sym (pairs_fail a.role a.area.now a.cells.now a.from a.count (sym c.run_formed.ensures ∙ c.if-run_formed.false))
+    ∙ sym (pairs_fail test a.record.now.area.now a.record.now.cells.now a.from a.count (sym (c.run_formed.ensures test told) ∙ c.if-run_formed.false))

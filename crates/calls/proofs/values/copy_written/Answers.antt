@@ -8,4 +8,4 @@ use Rattle.calls.proofs.values.copy_written.Goals as goal
 pub returns : goal.returns
 returns c =
     let a = c.args in
-    c.copy_values.ensures ∙ ap (stored a.board.now 0) (sym (written_cells a.cells.now (head_of a.h) c.requires.0 c.requires.1))
+    c.copy_values.ensures ∙ ap (stored a.board.now 0) (sym (written_cells a.call.now.cells.now (head_of a.call.now.head) c.requires.0 c.requires.1))

@@ -19,5 +19,5 @@ loop-k-preserved c =
     let a = c.args in
     let at = c.loop-k in
     c.put_inside.ensures
-    ∙ ap₂ (λ b v. stored b (a.at + 2 * at.k) (value_cells v)) at.invariant (c.pair_at.ensures ∙ ap (pair_at a.cells.now) c.position_at-position.ensures)
-    ∙ written_more 2 value_cells value_cells_two (positional_at a.cells.now (head_of a.h)) a.from at.k a.at a.board.now (omega (arith, c.requires.1))
+    ∙ ap₂ (λ b v. stored b (a.at + 2 * at.k) (value_cells v)) at.invariant (c.pair_at.ensures ∙ ap (pair_at a.call.now.cells.now) c.position_at-position.ensures)
+    ∙ written_more 2 value_cells value_cells_two (positional_at a.call.now.cells.now (head_of a.call.now.head)) a.from at.k a.at a.board.now (omega (arith, c.requires.1))

@@ -9,4 +9,4 @@ use Rattle.calls.specs.Values.{values_in}
 use Rattle.calls.proofs.values.write_values.Given as goal
 
 abbrev pub invariant-loop-k : goal.invariant-loop-k
-invariant-loop-k l = l.board ≡ stored l.initial.board l.at (write_each value_cells (values_in l.cells (head_of l.h) l.from l.k))
+invariant-loop-k l = l.board ≡ stored l.initial.board l.at (write_each value_cells (values_in l.call.cells.now (head_of l.call.head) l.from l.k))

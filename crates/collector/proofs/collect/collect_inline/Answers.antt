@@ -7,4 +7,4 @@ pub returns : goal.returns
 returns c =
     let a = c.args in
     λ qs call short.
-    short_ends qs call a.cells.now (head_of a.h) short c.requires.few.few_p a.board.now _ c.requires.long c.copy_written.ensures
+    short_ends qs call a.call.now.cells.now (head_of a.call.now.head) short c.requires.few.few_p a.board.now _ c.requires.long c.copy_written.ensures

@@ -11,14 +11,21 @@ use Rattle.builder.specs.Params.{parameters_in}
 use Rattle.builder.specs.declared.spec.DefParamIndices.{DefParamIndices}
 use Rattle.calls.specs.Head.{head_of, entries_from}
 use Rattle.findings.specs.Resolved.{Resolved}
-use Rattle.findings.specs.Resolve.{lent_list, pairs_from}
+use Rattle.findings.specs.Resolve.{with_indices, pairs_from}
 use Rattle.findings.specs.EntriesDone.{written_names, entries_in, EntriesReady}
 use Rattle.findings.proofs.entries.resolve_entries.Given as goal
 
 abbrev pub invariant-loop-k : goal.invariant-loop-k
 invariant-loop-k l =
-    (o : DefParamIndices) → EntriesReady l.spec (lent_list l.params o) l.cells l.area (head_of l.fn.h) l.next l.initial.sources l.initial.rest l.before
-    → Resolved (parameters_in l.spec l.params) l.cells l.area (written_names l.area l.cells (head_of l.fn.h) ++ pairs_from l.area l.cells (entries_from (head_of l.fn.h)) l.k) l.sources l.rest l.count
-    × ((P : List Value) → l.next ≡ min (length P) (positional_count (parameters_in l.spec l.params))
-    → ask_entries (parameters_in l.spec l.params) P (written_names l.area l.cells (head_of l.fn.h)) (entries_in l.area l.cells (entries_from (head_of l.fn.h)) 0 l.fn.h.d)
-    ≡ ask_entries (parameters_in l.spec l.params) P (written_names l.area l.cells (head_of l.fn.h) ++ pairs_from l.area l.cells (entries_from (head_of l.fn.h)) l.k) (entries_in l.area l.cells (entries_from (head_of l.fn.h)) l.k (l.fn.h.d - l.k)))
+    let cells = l.call.cells.now in
+    let area = l.call.area.now in
+    let h = head_of l.call.head in
+    let qs = parameters_in l.list.area.now l.list.params in
+    let first = l.initial.resolved in
+    let written = written_names area cells h in
+    (l.resolved.next ≡ first.next)
+    × ((o : DefParamIndices) → EntriesReady l.list.area.now (with_indices l.list o) cells area h first.next first.sources first.rest first.count
+    → Resolved qs cells area (written ++ pairs_from area cells (entries_from h) l.k) l.resolved.sources l.resolved.rest l.resolved.count
+    × ((P : List Value) → first.next ≡ min (length P) (positional_count qs)
+    → ask_entries qs P written (entries_in area cells (entries_from h) 0 h.d)
+    ≡ ask_entries qs P (written ++ pairs_from area cells (entries_from h) l.k) (entries_in area cells (entries_from h) l.k (h.d - l.k))))

@@ -7,10 +7,11 @@ use Rattle.rules.specs.Binding.{texts_of}
 use Rattle.builder.specs.Params.{parameters_in}
 use Rattle.builder.specs.declared.spec.DefParamIndices.{DefParamIndices}
 use Rattle.findings.specs.Resolved.{Resolved}
-use Rattle.findings.specs.Resolve.{Naming, lent_list, pairs_from}
+use Rattle.findings.specs.Resolve.{Naming, with_indices, pairs_from}
 use Rattle.findings.proofs.resolve.resolve_names.Given as goal
 
 abbrev pub invariant-loop-k : goal.invariant-loop-k
 invariant-loop-k l =
-    (o : DefParamIndices) → Naming l.spec (lent_list l.params o) l.cells l.area l.from l.n l.initial.sources l.initial.rest
-    → (differ (texts_of (pairs_from l.area l.cells l.from l.k)) ≡ true) × Resolved (parameters_in l.spec (lent_list l.params o).params) l.cells l.area (pairs_from l.area l.cells l.from l.k) l.sources l.rest l.count
+    (l.resolved.next ≡ l.fn.resolved.next)
+    × ((o : DefParamIndices) → Naming l.list.area.now (with_indices l.list o) l.call.cells.now l.call.area.now l.from l.n l.initial.resolved.sources l.initial.resolved.rest
+    → (differ (texts_of (pairs_from l.call.area.now l.call.cells.now l.from l.k)) ≡ true) × Resolved (parameters_in l.list.area.now l.list.params) l.call.cells.now l.call.area.now (pairs_from l.call.area.now l.call.cells.now l.from l.k) l.resolved.sources l.resolved.rest l.resolved.count)

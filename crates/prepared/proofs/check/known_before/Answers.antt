@@ -18,9 +18,9 @@ use Rattle.prepared.proofs.check.known_before.Goals as goal
 pub returns : goal.returns
 returns c =
     let a = c.args in
-    let cells = a.cells.now in
+    let cells = a.list.now.cells.now in
     let bytes = c.bytes_at-bytes.result.now in
-    any_from_yields_List (λ j. eqb (get_or cells (2 + 6 * j + 5) 0) (get_or cells (2 + 6 * a.i + 5) 0) && names bytes (param_at a.area.now cells j)) _ _ c.any.result
+    any_from_yields_List (λ j. eqb (get_or cells (2 + 6 * j + 5) 0) (get_or cells (2 + 6 * a.i + 5) 0) && names bytes (param_at a.list.now.area.now cells j)) _ _ c.any.result
     c.any.ensures.ran (YieldsList-from_range 0 a.i a.i refl (sub-zero a.i)) (λ x b q k. search (rules, tests))
-    ∙ known_range a.area.now cells bytes a.i c.requires c.bytes_at-bytes.ensures
-    ∙ sym (known_bytes a.area.now cells bytes a.i _ c.bytes_at-bytes.ensures)
+    ∙ known_range a.list.now.area.now cells bytes a.i c.requires c.bytes_at-bytes.ensures
+    ∙ sym (known_bytes a.list.now.area.now cells bytes a.i _ c.bytes_at-bytes.ensures)

@@ -5,4 +5,4 @@ use Rattle.prepared.proofs.LawsRowsLoop.{SoFar}
 use Rattle.prepared.proofs.check.rows_right.Given as goal
 
 abbrev pub invariant-loop-i : goal.invariant-loop-i
-invariant-loop-i l = SoFar l.area l.cells l.n l.used l.least l.i
+invariant-loop-i l = SoFar l.list.area.now l.list.cells.now l.n l.used l.least l.i

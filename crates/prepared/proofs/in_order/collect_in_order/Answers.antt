@@ -12,13 +12,13 @@ returns-then-board-lt-BOARD c = record { short = λ l. (refl, refl); long = λ l
 pub copy_values-requires : goal.copy_values-requires
 copy_values-requires c =
     let a = c.args in
-    (c.requires.0.few_p, values_inside a.cells.now (head_of a.h) c.requires.1, omega (arith, c.requires.2, c.if-board-lt-BOARD.false))
+    (omega (arith, c.requires.0.few_p), values_inside a.call.now.cells.now (head_of a.call.now.head) c.requires.1, omega (arith, c.requires.2, c.if-board-lt-BOARD.false))
 
 pub copy_values-requires-2 : goal.copy_values-requires-2
 copy_values-requires-2 c =
     let a = c.args in (
-      c.requires.0.few_s,
-      items_inside a.cells.now (head_of a.h) c.requires.1 c.items_from.result c.items_from.ensures,
+      omega (arith, c.requires.0.few_s),
+      items_inside a.call.now.cells.now (head_of a.call.now.head) c.requires.1 c.items_from.result c.items_from.ensures,
       omega (arith, c.requires.2, c.if-board-lt-BOARD.false, c.copy_values.auto.board),
     )
 
@@ -26,7 +26,7 @@ pub copy_named-requires : goal.copy_named-requires
 copy_named-requires c =
     let a = c.args in (
       c.requires.0.few_n,
-      named_inside a.cells.now (head_of a.h) c.requires.1 c.named_from.result c.named_from.ensures,
+      named_inside a.call.now.cells.now (head_of a.call.now.head) c.requires.1 c.named_from.result c.named_from.ensures,
       omega (arith, c.requires.2, c.if-board-lt-BOARD.false, c.copy_values.auto.board, c.copy_values-2.auto.board),
     )
 
@@ -34,7 +34,7 @@ pub copy_named-requires-2 : goal.copy_named-requires-2
 copy_named-requires-2 c =
     let a = c.args in (
       c.requires.0.few_d,
-      entries_inside a.cells.now (head_of a.h) c.requires.1 c.entries_from.result c.entries_from.ensures,
+      entries_inside a.call.now.cells.now (head_of a.call.now.head) c.requires.1 c.entries_from.result c.entries_from.ensures,
       omega (arith, c.requires.2, c.if-board-lt-BOARD.false, c.copy_values.auto.board, c.copy_values-2.auto.board, c.copy_named.auto.board),
     )
 
@@ -45,7 +45,7 @@ returns c =
       short = λ l. absurd (omega (arith, c.if-board-lt-BOARD.false));
       long = λ l. (
         refl,
-        in_order_stored a.cells.now (head_of a.h) c.requires.1
+        in_order_stored a.call.now.cells.now (head_of a.call.now.head) c.requires.1
             a.board.now c.copy_values.new.board c.copy_values-2.new.board c.copy_named.new.board c.copy_named-2.new.board
             c.items_from.result c.named_from.result c.entries_from.result
             c.items_from.ensures c.named_from.ensures c.entries_from.ensures

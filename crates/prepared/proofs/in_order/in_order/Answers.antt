@@ -9,11 +9,11 @@ use Rattle.prepared.proofs.LawsSeenInOrder.{order_few, rows_there, named_ready, 
 use Rattle.prepared.proofs.in_order.in_order.Goals as goal
 use Rattle.prepared.proofs.in_order.in_order.Goals.{Else-values-h, Start, then-takes_positions, else-takes_positions}
 
-few : (c : Start) → Few 64 (head_of c.args.h)
-few c = let a = c.args in order_few a.spec.now a.list.now a.cells.now a.area.now (head_of a.h) a.len c.requires
+few : (c : Start) → Few 64 (head_of c.args.call.now.head)
+few c = let a = c.args in order_few a.list.now.area.now a.list.now.cells.now a.call.now.cells.now a.call.now.area.now (head_of a.call.now.head) a.len c.requires
 
 -- there are as many arguments as rows
-full : (c : Else-values-h) → let a = c.args in a.h.p + a.h.s + a.h.n + a.h.d ≡ a.len
+full : (c : Else-values-h) → let a = c.args in a.call.now.head.p + a.call.now.head.s + a.call.now.head.n + a.call.now.head.d ≡ a.len
 full c = c.if-values-h.false
 
 pub overflow_add-values : goal.overflow_add-values
@@ -28,7 +28,7 @@ overflow_add-values-3 c = let f = few (goal.at.overflow_add-values-3 c).Start in
 pub takes_positions-requires : goal.takes_positions-requires
 takes_positions-requires c =
     let a = c.args in
-    rows_there a.spec.now a.list.now a.cells.now a.area.now (head_of a.h) a.len c.requires (a.h.p + a.h.s) (omega (arith, full (goal.at.takes_positions-requires c).Else-values-h))
+    rows_there a.list.now.area.now a.list.now.cells.now a.call.now.cells.now a.call.now.area.now (head_of a.call.now.head) a.len c.requires (a.call.now.head.p + a.call.now.head.s) (omega (arith, full (goal.at.takes_positions-requires c).Else-values-h))
 
 pub entries_from-requires : goal.entries_from-requires
 entries_from-requires c =
@@ -37,7 +37,7 @@ entries_from-requires c =
 pub named_in_turn-requires : goal.named_in_turn-requires
 named_in_turn-requires c =
     let a = c.args in
-    entries_ready a.spec.now a.list.now a.cells.now a.area.now (head_of a.h) a.len c.requires (omega (arith, full (goal.at.named_in_turn-requires c).Else-values-h)) c.entries_from.ensures
+    entries_ready a.list.now.area.now a.list.now.cells.now a.call.now.cells.now a.call.now.area.now (head_of a.call.now.head) a.len c.requires (omega (arith, full (goal.at.named_in_turn-requires c).Else-values-h)) c.entries_from.ensures
 
 pub named_from-requires : goal.named_from-requires
 named_from-requires c =
@@ -46,13 +46,13 @@ named_from-requires c =
 pub named_in_turn-requires-then-named_in_turn : goal.named_in_turn-requires-then-named_in_turn
 named_in_turn-requires-then-named_in_turn c =
     let a = c.args in
-    named_ready a.spec.now a.list.now a.cells.now a.area.now (head_of a.h) a.len c.requires (omega (arith, full (goal.at.named_in_turn-requires-then-named_in_turn c).Else-values-h)) c.named_from.ensures
+    named_ready a.list.now.area.now a.list.now.cells.now a.call.now.cells.now a.call.now.area.now (head_of a.call.now.head) a.len c.requires (omega (arith, full (goal.at.named_in_turn-requires-then-named_in_turn c).Else-values-h)) c.named_from.ensures
 
 pub returns-then-named_in_turn : goal.returns-then-named_in_turn
 returns-then-named_in_turn c =
     let a = c.args in
     λ e. elim c.if-takes_positions.branch [
-      | then-takes_positions w ↦ seen_in_order a.spec.now a.list.now a.cells.now a.area.now (head_of a.h) a.len c.requires (full (goal.at.returns-then-named_in_turn c).Else-values-h)
+      | then-takes_positions w ↦ seen_in_order a.list.now.area.now a.list.now.cells.now a.call.now.cells.now a.call.now.area.now (head_of a.call.now.head) a.len c.requires (full (goal.at.returns-then-named_in_turn c).Else-values-h)
           c.if-h-eq2.false c.if-h-eq2-2.false
           (sym c.takes_positions.ensures ∙ w.if-takes_positions.true)
           w.entries_from.ensures (w.named_in_turn.ensures (sym w.value-is ∙ c.if-named_in_turn.true))

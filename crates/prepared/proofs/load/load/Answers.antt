@@ -26,5 +26,5 @@ returns c =
     let e : at.i ≡ p.len = omega (arith, at.auto.i-end, at.invariant.0, c.loop-i-test.false) in
     record {
       len = at.invariant.0;
-      list = λ area d x. loaded_list cells p (rw e at at.invariant.1) area d at.invariant.0 (omega (arith, at.invariant.0, c.requires.0.few)) (rw at.invariant.0 x);
+      list = λ area s is x. loaded_list cells p (rw e at at.invariant.1) area s is at.invariant.0 (omega (arith, at.invariant.0, c.requires.0.few)) (rw at.invariant.0 x);
     }

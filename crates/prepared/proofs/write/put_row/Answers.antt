@@ -7,6 +7,7 @@ use native.Mathlib.Omega.{arith}
 use lib.Seq.{drop-drop}
 use borrow.Author.Tests.{le-leb}
 use Rattle.cells.specs.Out.{stored}
+use Rattle.builder.specs.Params.{step_of}
 use Rattle.prepared.specs.Prepared.{row_cells}
 use Rattle.prepared.specs.Rows.{row_in}
 use Rattle.prepared.proofs.write.put_row.Goals as goal
@@ -16,7 +17,7 @@ end : (a : ℕ) → a + (a + 6 - a) ≡ a + 6
 end a = omega arith
 
 pub returns : goal.returns
-unfolding stored row_cells row_in
+unfolding stored row_cells row_in step_of
 returns c =
     let a = c.args in
     rw (c.copy_from_slice.ensures.after, le-leb _ _ c.requires, drop-drop, end a.at) (sym (append_assoc _ (row_cells (row_in a.row)) _))

@@ -1,11 +1,8 @@
 use mathlib.Core.Path.{ap, ◌∙◌}
 use native.Mathlib.Omega.{arith}
-use lib.ListN.{get_or}
 use Rattle.rules.specs.Value.{value_cells}
 use Rattle.cells.specs.Out.{stored}
 use Rattle.cells.specs.Value.{pair_of}
-use Rattle.builder.specs.Params.{parameter_at, parameter_of}
-use Rattle.prepared.specs.Prepared.{row_of}
 use Rattle.prepared.specs.Rows.{row_in}
 use Rattle.prepared.proofs.LawsWritten.{writing_none, writing_next, writing_end}
 use Rattle.prepared.proofs.write.write_list.Goals as goal
@@ -22,15 +19,10 @@ pub loop-i-smaller : goal.loop-i-smaller
 loop-i-smaller c = omega (arith, c.loop-i-test.true)
 
 pub loop-i-preserved : goal.loop-i-preserved
-unfolding parameter_at
 loop-i-preserved c =
-    let a = c.args in
+    let l = c.args.list.now in
     let at = c.loop-i in
-    let p = a.params.now in
-    writing_next a.area.now p _ at.out _ at.i (row_in c.row_for-row.result) at.invariant c.loop-i-test.true
-    (c.row_for-row.ensures
-    ∙ ap (λ v. row_of (parameter_of a.area.now (get_or p.codes at.i 0) (get_or p.styles at.i 0) (get_or p.names at.i 0) (pair_of v))) c.new-in-loop-i.ensures)
-    c.put_row.auto.out c.put_row.ensures
+    writing_next l.area.now l.params _ at.out _ at.i (row_in c.row_for.result) at.invariant c.loop-i-test.true c.row_for.ensures c.put_row.auto.out c.put_row.ensures
 
 pub shape_of-out : goal.shape_of-out
 shape_of-out c = c.loop-i.invariant.same ∙ c.put.auto.out
@@ -40,5 +32,5 @@ unfolding value_cells
 returns c =
     let a = c.args in
     let at = c.loop-i in
-    writing_end a.area.now a.params.now a.function a.out.now _ at.out at.i at.invariant c.loop-i-test.false c.requires.1
+    writing_end a.list.now.area.now a.list.now.params a.function a.out.now _ at.out at.i at.invariant c.loop-i-test.false c.requires.1
     (c.put.ensures ∙ ap (λ p. stored a.out.now 0 (value_cells (pair_of p))) c.new.ensures)

@@ -4,4 +4,4 @@ use Rattle.prepared.proofs.LawsWritten.{Writing}
 use Rattle.prepared.proofs.write.write_list.Given as goal
 
 abbrev pub invariant-loop-i : goal.invariant-loop-i
-invariant-loop-i l = Writing l.area l.params l.initial.out l.out l.i
+invariant-loop-i l = Writing l.list.area.now l.list.params l.initial.out l.out l.i

@@ -1,6 +1,4 @@
 -- `printer::items::write_items` meets its contract. The loop's invariant: the items of the parameters before i are written. Assumes nothing.
-use mathlib.Core.Path.{◌≡◌}
-use lib.ListN.{length}
 use Rattle.rules.specs.Printed.{items_of}
 use Rattle.cells.specs.Listed.{listed}
 use Rattle.builder.specs.Params.{style_of, parameter_at}
@@ -9,5 +7,4 @@ use Rattle.printer.specs.Line.{Added}
 use Rattle.printer.proofs.items.write_items.Given as goal
 
 abbrev pub invariant-loop-i : goal.invariant-loop-i
-invariant-loop-i l =
-    (length l.out ≡ length l.initial.out) × Added (items_of (under (style_of l.style)) (listed (parameter_at l.area l.params) 0 l.i)) l.initial.end l.initial.out l.out l.end
+invariant-loop-i l = Added (items_of (under (style_of l.style)) (listed (parameter_at l.list.area.now l.list.params) 0 l.i)) l.initial.line l.line

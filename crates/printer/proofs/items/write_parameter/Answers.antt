@@ -8,30 +8,30 @@ use Rattle.printer.proofs.LawsLine.{added_nothing, room_same, added_same}
 use Rattle.printer.proofs.LawsItems.{Under-at, items_miss, items_at}
 use Rattle.printer.proofs.items.write_parameter.Goals as goal
 
-pub returns-then-not-is_under : goal.returns-then-not-is_under
-returns-then-not-is_under c =
+pub returns-else-is_under : goal.returns-else-is_under
+returns-else-is_under c =
     let a = c.args in
     let s = style_of a.style in
-    added_nothing (items_of (under s) (parameter_at a.area.now a.params.now a.i ∷ [])) a.line a.out.now
-    (items_miss (under s) (parameter_at a.area.now a.params.now a.i)
-    (Under-at s a.area.now a.params.now a.i c.requires.1 ∙ sym c.is_under.ensures ∙ c.if-not-is_under.true))
+    added_nothing (items_of (under s) (parameter_at a.list.now.area.now a.list.now.params a.i ∷ [])) a.line.now
+    (items_miss (under s) (parameter_at a.list.now.area.now a.list.now.params a.i)
+    (Under-at s a.list.now.area.now a.list.now.params a.i c.requires.1 ∙ sym c.is_under.ensures ∙ c.if-is_under.false))
     c.requires.2
 
 pub write_item-requires : goal.write_item-requires
 write_item-requires c =
     let a = c.args in
     let s = style_of a.style in
-    room_same (items_of (under s) (parameter_at a.area.now a.params.now a.i ∷ [])) _ a.line a.out.now
-    (items_at s a.area.now a.params.now a.i c.printed_name.result.now c.requires.1
-    (sym c.is_under.ensures ∙ c.if-not-is_under.false) c.printed_name.ensures)
+    room_same (items_of (under s) (parameter_at a.list.now.area.now a.list.now.params a.i ∷ [])) _ a.line.now
+    (items_at s a.list.now.area.now a.list.now.params a.i c.printed_name-name.result.now c.requires.1
+    (sym c.is_under.ensures ∙ c.if-is_under.true) c.printed_name-name.ensures)
     c.requires.2
 
-pub returns : goal.returns
-returns c =
+pub returns-then-is_under : goal.returns-then-is_under
+returns-then-is_under c =
     let a = c.args in
     let s = style_of a.style in
-    added_same _ (items_of (under s) (parameter_at a.area.now a.params.now a.i ∷ []))
+    added_same _ (items_of (under s) (parameter_at a.list.now.area.now a.list.now.params a.i ∷ []))
     (sym
-    (items_at s a.area.now a.params.now a.i c.printed_name.result.now c.requires.1
-    (sym c.is_under.ensures ∙ c.if-not-is_under.false) c.printed_name.ensures))
+    (items_at s a.list.now.area.now a.list.now.params a.i c.printed_name-name.result.now c.requires.1
+    (sym c.is_under.ensures ∙ c.if-is_under.true) c.printed_name-name.ensures))
     c.write_item.ensures

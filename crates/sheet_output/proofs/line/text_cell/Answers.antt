@@ -1,9 +1,9 @@
 -- `sheet_output::line::text_cell` meets its contract: the end behind the text. Assumes nothing.
-use native.Mathlib.Omega.{arith}
-use Rattle.sheet_output.proofs.LawsLine.{put_both}
+use Rattle.cells.proofs.LawsOut.{wrote_room, wrote_both}
 use Rattle.sheet_output.proofs.line.text_cell.Goals as goal
 
+pub write-requires-2 : goal.write-requires-2
+write-requires-2 c = wrote_room _ _ _ c.write.ensures _ c.requires
+
 pub returns : goal.returns
-returns c =
-    let a = c.args in
-    put_both a.text.now a.end.now a.at a.out.now (omega (arith, c.requires)) _ _ _ _ c.write_bytes-next.ensures c.write_bytes.ensures
+returns c = wrote_both _ _ _ c.write.ensures _ _ c.requires c.write-2.ensures

@@ -1,16 +1,16 @@
 -- `sheet_output::line::value_cell` meets its contract: the line's end behind the value. Assumes nothing.
 use native.Mathlib.Omega.{arith}
-use mathlib.Core.List.{[], ◌∷◌}
 use Rattle.cells.specs.Value.{pair_of}
-use Rattle.sheet_output.specs.Line.{shown_value}
-use Rattle.sheet_output.proofs.LawsLine.{put_both, shown_value_length}
+use Rattle.cells.proofs.LawsOut.{wrote_room, wrote_both}
+use Rattle.sheet_output.proofs.LawsLine.{shown_value_length}
 use Rattle.sheet_output.proofs.line.value_cell.Goals as goal
 
-pub write_bytes-requires : goal.write_bytes-requires
-write_bytes-requires c = let a = c.args in omega (arith, shown_value_length a.spec.now a.call.now (pair_of a.pair))
+pub write-requires : goal.write-requires
+write-requires c =
+    let b = c.args.bound.now in
+    wrote_room _ _ _ c.write_shown.ensures _ (omega (arith, shown_value_length b.spec.now b.call.now (pair_of c.args.pair)))
 
 pub returns : goal.returns
 returns c =
-    let a = c.args in
-    put_both (shown_value a.spec.now a.call.now (pair_of a.pair)) (10 ∷ []) a.at a.out.now
-    (omega (arith, c.requires, shown_value_length a.spec.now a.call.now (pair_of a.pair))) _ _ _ _ c.write_shown-next.ensures c.write_bytes.ensures
+    let b = c.args.bound.now in
+    wrote_both _ _ _ c.write_shown.ensures _ _ (omega (arith, shown_value_length b.spec.now b.call.now (pair_of c.args.pair))) c.write.ensures

@@ -1,6 +1,9 @@
 -- `sheet_output::outcome::write_accepted` meets its contract: the parts stand behind each other. Assumes nothing.
 use native.Mathlib.Omega.{arith}
-use Rattle.sheet_output.proofs.LawsOutcome.{heading_length, slots_most, accepted_put}
+use Rattle.rules.specs.SheetOutput.{line}
+use Rattle.cells.proofs.LawsOut.{wrote_room}
+use Rattle.sheet_output.specs.Outcome.{heading}
+use Rattle.sheet_output.proofs.LawsOutcome.{behind_slots, accepted_wrote}
 use Rattle.sheet_output.proofs.outcome.write_accepted.Goals as goal
 
 pub overflow_mul-from : goal.overflow_mul-from
@@ -12,37 +15,24 @@ overflow_mul-named c = omega (arith, c.requires.0.star)
 pub overflow_add-named : goal.overflow_add-named
 overflow_add-named c = omega (arith, c.requires.0.slots, c.requires.0.star)
 
-pub write_heading-slots-requires : goal.write_heading-slots-requires
-write_heading-slots-requires c = omega (arith, c.requires.1)
+pub write_slots-requires : goal.write_slots-requires
+write_slots-requires c = (c.requires.0.slots, omega (arith, c.requires.0.slots, wrote_room _ _ _ c.write.ensures 40944 (omega (arith, c.requires.1))))
 
-pub write_slots-rest-requires : goal.write_slots-rest-requires
-write_slots-rest-requires c = (c.requires.0.slots, omega (arith, c.requires.0.slots, c.requires.1, heading_length))
-
-pub write_remainders-last-requires : goal.write_remainders-last-requires
-write_remainders-last-requires c =
+pub write_remainders-requires : goal.write_remainders-requires
+unfolding heading line
+write_remainders-requires c =
     let a = c.args in
+    let b = a.bound.now in
     let l = c.requires.0 in (
       (omega (arith, l.slots, l.star), omega (arith, l.star, l.named)),
       (omega (arith, l.slots, l.star), omega (arith, l.star, l.named)),
-      omega (arith, c.requires.1, l.star, l.named, heading_length, slots_most a.spec.now a.call.now a.list.now.params a.board.now a.counts l),
-    )
-
-pub write_closing-requires : goal.write_closing-requires
-write_closing-requires c =
-    let a = c.args in
-    let l = c.requires.0 in
-    omega (
-      arith,
-      c.requires.1,
-      l.star,
-      l.named,
-      heading_length,
-      slots_most a.spec.now a.call.now a.list.now.params a.board.now a.counts l,
-      c.write_remainders-last.ensures.upper_bound,
+      omega (arith, l.star, l.named, behind_slots b.spec.now b.call.now a.params.now b.board.now a.counts l _ _ c.requires.1 c.write.ensures _ c.write_slots.ensures),
     )
 
 pub returns : goal.returns
+unfolding heading line
 returns c =
     let a = c.args in
-    accepted_put a.spec.now a.call.now a.list.now.params a.board.now a.counts c.requires.0 a.out.now _ _ _ _ _ _ _ _ c.requires.1
-    c.write_heading-slots.ensures c.write_slots-rest.ensures c.write_remainders-last.ensures.put c.write_closing.ensures
+    let b = a.bound.now in
+    accepted_wrote b.spec.now b.call.now a.params.now b.board.now a.counts c.requires.0 _ _ c.requires.1 c.write.ensures _ c.write_slots.ensures
+    c.write_remainders.ensures.wrote c.write_closing.ensures

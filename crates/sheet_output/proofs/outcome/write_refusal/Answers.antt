@@ -1,15 +1,8 @@
--- `sheet_output::outcome::write_refusal` meets its contract: the detail behind the first two cells. Assumes nothing.
-use native.Mathlib.Omega.{arith}
-use Rattle.sheet_output.proofs.LawsOutcome.{cells_length, refusal_put}
+-- `sheet_output::outcome::write_refusal` meets its contract: the refusal is the whole of what is written. Assumes nothing.
+use borrow.Author.Rules.{rules}
+use Rattle.sheet_output.proofs.LawsOutcome.{wrote_whole}
 use Rattle.sheet_output.proofs.outcome.write_refusal.Goals as goal
-
-pub write_number-third-requires : goal.write_number-third-requires
-write_number-third-requires c = omega (arith, c.requires)
-
-pub text_cell-requires : goal.text_cell-requires
-text_cell-requires c = let a = c.args in omega (arith, c.requires, cells_length a.number)
 
 pub returns : goal.returns
 returns c =
-    let a = c.args in
-    refusal_put a.number a.detail.now a.out.now _ _ _ _ (omega (arith, c.requires)) c.write_number-third.ensures c.text_cell.ensures
+    wrote_whole c.new-output.ensures c.refuse.ensures (search (rules, c.refuse.ensures.same_reference, c.new-output.ensures.same_reference))

@@ -1,39 +1,41 @@
-use mathlib.Core.Path.{◌≡◌, refl}
-use Prim.Native.Nat.{◌+◌, ◌-◌}
+use mathlib.Core.Path.{refl, ap, ◌∙◌}
 use native.Mathlib.Omega.{arith}
+use borrow.Author.Rules.{rules}
+use lib.ListN.{length}
 use Rattle.rules.specs.SheetRecords.{area_of}
-use Rattle.sheet_lines.specs.Header.{columns_of}
+use Rattle.sheet_lines.specs.Row.{row_of}
+use Rattle.sheet_records.specs.RowsLeft.{rows_left}
+use Rattle.sheet_records.specs.Sheet.{is_call}
 use Rattle.sheet_records.specs.Text.{row_texts}
 use Rattle.sheet_records.proofs.LawsFit.{area_room}
-use Rattle.sheet_records.proofs.LawsRows.{ahead_first}
-use Rattle.sheet_records.proofs.LawsLoop.{going_start, going_room, going_next, going_done}
+use Rattle.sheet_records.proofs.LawsLeft.{left_start, left_next, left_done, put_lent}
 use Rattle.sheet_records.proofs.texts.write_texts.Goals as goal
 
-pub loop-init : goal.loop-init
-loop-init c =
+pub loop-row-init : goal.loop-row-init
+loop-row-init c =
     let a = c.args in
-    let all : a.rows - 0 ≡ a.rows = omega arith in
-    rw all
-    (going_start (λ t. area_of (row_texts a.keyed)) a.input.now (columns_of a.columns) a.from a.rows 0 0 a.area.now c.requires.0 (omega arith) (omega (arith, area_room a.keyed a.input.now (columns_of a.columns) a.from a.rows c.requires.0, c.requires.1)))
+    let start = c.new-texts in
+    rw c.into_iter-row-iterator.ensures.into_iter_gives (
+      tt,
+      tt,
+      left_start (area_of (row_texts (is_call a.sheet)) (rows_left a.rows)) start.result.at start.result.out.now
+          (omega (arith, area_room (is_call a.sheet) _ _ _ _ a.rows.ahead, c.requires, start.ensures.at, ap length start.ensures.held)),
+      refl,
+    )
 
-pub row_at-next-requires : goal.row_at-next-requires
-row_at-next-requires c =
-    let a = c.args in
-    ahead_first a.input.now (columns_of a.columns) c.loop.at (a.rows - c.loop.counter) (omega arith) c.loop.invariant.ahead
-
-pub write_row_texts-text-requires : goal.write_row_texts-text-requires
-write_row_texts-text-requires c =
-    let a = c.args in
-    going_room c.loop.invariant a.keyed (λ t. row_texts a.keyed) (λ t r rows. refl) c.row_at-next.result (a.rows - (c.loop.counter + 1)) (omega arith) c.row_at-next.ensures
-
-pub loop-preserved : goal.loop-preserved
-loop-preserved c =
-    let a = c.args in
-    going_next c.loop.invariant a.keyed (λ t. row_texts a.keyed) (λ t r rows. refl) c.row_at-next.result (a.rows - (c.loop.counter + 1)) (omega arith) c.row_at-next.ensures
-    c.write_row_texts-text.result c.write_row_texts-text.ensures.ends c.write_row_texts-text.new.area c.write_row_texts-text.result c.write_row_texts-text.ensures
-
-pub shape_of-area : goal.shape_of-area
-shape_of-area c = c.loop.invariant.rest.same
+pub loop-row-preserved : goal.loop-row-preserved
+loop-row-preserved c =
+    let texts = row_texts (is_call c.args.sheet) in
+    let more = c.write_row_texts in (
+      tt,
+      tt,
+      left_next (texts (row_of c.in-Some.row)) (area_of texts (rows_left c.next.new.self)) _ (ap (area_of texts) c.in-Some.ensures.steps) c.loop-row.invariant.2
+          more.new.texts.out.now more.new.texts.at more.ensures.put,
+      more.ensures.same_reference ∙ c.loop-row.invariant.3,
+    )
 
 pub returns : goal.returns
-returns c = going_done c.loop.invariant (λ t. refl) (omega arith)
+returns c =
+    let start = c.new-texts.ensures in
+    put_lent start.held start.at (search (rules, c.loop-row.invariant.3, start.same_reference))
+    (left_done _ (ap (area_of (row_texts (is_call c.args.sheet))) c.in-None.ensures.steps.0) c.loop-row.invariant.2)

@@ -1,13 +1,16 @@
 -- `sheet_records::texts::write_texts` meets its contract. The loop's invariant: what is left to write are the texts of the rows ahead.
 -- Assumes nothing.
-use Prim.Native.Nat.{◌-◌}
+use mathlib.Core.Path.{◌≡◌}
 use Rattle.rules.specs.SheetRecords.{area_of}
-use Rattle.sheet_lines.specs.Header.{columns_of}
-use Rattle.sheet_records.specs.Rows.{rows_from}
+use Rattle.sheet_records.specs.RowsLeft.{rows_left}
+use Rattle.sheet_records.specs.Sheet.{is_call}
 use Rattle.sheet_records.specs.Text.{row_texts}
-use Rattle.sheet_records.proofs.LawsLoop.{Going}
+use Rattle.sheet_records.proofs.LawsLeft.{Left}
 use Rattle.sheet_records.proofs.texts.write_texts.Given as goal
 
-abbrev pub invariant-loop : goal.invariant-loop
-invariant-loop l =
-    Going (λ t. area_of (row_texts l.keyed)) l.input (columns_of l.columns) (area_of (row_texts l.keyed) (rows_from l.input (columns_of l.columns) l.from l.rows)) 0 l.initial.area l.at (l.rows - l.counter) l.text l.text l.area
+abbrev pub invariant-loop-row : goal.invariant-loop-row
+invariant-loop-row l =
+    (goal.iterator-loop-row).can_next l.row-iterator
+    × (goal.iterator-loop-row).is_finite l.row-iterator
+    × Left (area_of (row_texts (is_call l.sheet)) (rows_left l.rows)) l.initial.texts.at l.initial.texts.out.now (area_of (row_texts (is_call l.sheet)) (rows_left l.row-iterator)) l.texts.at l.texts.out.now
+    × (l.texts.out.ghost_name ≡ l.initial.texts.out.ghost_name)

@@ -4,20 +4,13 @@ use native.Mathlib.Omega.{arith}
 use lib.ListN.{length, take}
 use Rattle.rules.specs.SheetValue.{decimal}
 use Rattle.rules.proofs.LawsDigits.{decimal_length}
-use Rattle.cells.proofs.LawsOut.{put_same}
+use Rattle.cells.proofs.LawsOut.{wrote_same}
 use Rattle.sheet_values.proofs.LawsPrint.{spelled_decimal}
 use Rattle.sheet_values.proofs.print.write_decimal.Goals as goal
-
-pub write_bytes-requires : goal.write_bytes-requires
-write_bytes-requires c =
-    let n = c.args.n in
-    let held = c.decimal-count.new.out in
-    let e = spelled_decimal n c.decimal-count.result c.ranges.n.fits c.decimal-count.ensures.len held c.decimal-count.ensures.digits in
-    omega (arith, ap length e, decimal_length n, c.requires)
 
 pub returns : goal.returns
 returns c =
     let n = c.args.n in
     let k = c.decimal-count.result in
     let held = c.decimal-count.new.out in
-    put_same (take k held) (decimal n) (spelled_decimal n k c.ranges.n.fits c.decimal-count.ensures.len held c.decimal-count.ensures.digits) c.write_bytes.ensures
+    wrote_same (take k held) (decimal n) (spelled_decimal n k c.ranges.n.fits c.decimal-count.ensures.len held c.decimal-count.ensures.digits) c.write.ensures

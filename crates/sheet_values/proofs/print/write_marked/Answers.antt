@@ -1,9 +1,14 @@
 -- `sheet_values::print::write_marked` meets its contract. Assumes nothing.
-use Rattle.sheet_values.proofs.LawsPrint.{put_both}
+use lib.ListN.{length}
+use Rattle.cells.proofs.LawsOut.{wrote_room, wrote_both}
 use Rattle.sheet_values.proofs.print.write_marked.Goals as goal
+
+pub write-requires-2 : goal.write-requires-2
+write-requires-2 c =
+    let a = c.args in
+    wrote_room a.mark.now a.line.now c.write.new.self c.write.ensures (length a.text.now) c.requires
 
 pub returns : goal.returns
 returns c =
     let a = c.args in
-    put_both a.mark.now a.text.now a.at a.out.now c.write_bytes-next.new.out c.write_bytes.new.out
-    c.write_bytes-next.result c.write_bytes.result c.requires c.write_bytes-next.ensures c.write_bytes.ensures
+    wrote_both a.mark.now a.line.now c.write.new.self c.write.ensures a.text.now c.write-2.new.self c.requires c.write-2.ensures

@@ -2,11 +2,15 @@
 use native.Mathlib.Omega.{arith}
 use Rattle.rules.specs.SheetValue.{decimal}
 use Rattle.rules.proofs.LawsDigits.{decimal_length}
-use Rattle.sheet_values.proofs.LawsPrint.{put_both}
+use Rattle.cells.proofs.LawsOut.{wrote_room, wrote_both}
 use Rattle.sheet_values.proofs.print.write_number.Goals as goal
+
+pub write_decimal-requires : goal.write_decimal-requires
+write_decimal-requires c =
+    let a = c.args in
+    wrote_room a.mark.now a.line.now c.write.new.self c.write.ensures 20 c.requires
 
 pub returns : goal.returns
 returns c =
     let a = c.args in
-    put_both a.mark.now (decimal a.n) a.at a.out.now c.write_bytes-next.new.out c.write_decimal.new.out
-    c.write_bytes-next.result c.write_decimal.result (omega (arith, c.requires, decimal_length a.n)) c.write_bytes-next.ensures c.write_decimal.ensures
+    wrote_both a.mark.now a.line.now c.write.new.self c.write.ensures (decimal a.n) c.write_decimal.new.line (omega (arith, c.requires, decimal_length a.n)) c.write_decimal.ensures

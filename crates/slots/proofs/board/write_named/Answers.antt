@@ -23,20 +23,20 @@ loop-k-preserved c area =
     let a = c.args in
     let at = c.loop-k in
     let k = at.k in
-    let below : k < a.count = omega (arith, length-take a.count a.rest.now) in
-    let same : get_or (take a.count a.rest.now) k 0 ≡ get_or a.rest.now k 0 = get_or-take a.count a.rest.now k 0 below in
+    let below : k < a.resolved.now.count = omega (arith, length-take a.resolved.now.count a.resolved.now.rest) in
+    let same : get_or (take a.resolved.now.count a.resolved.now.rest) k 0 ≡ get_or a.resolved.now.rest k 0 = get_or-take a.resolved.now.count a.resolved.now.rest k 0 below in
     c.put_inside-in-loop-k.ensures
     ∙ ap₂ (λ b v. stored b (a.at + 4 * k + 2) (value_cells v))
     (c.put_inside.ensures ∙ ap (λ v. stored at.board (a.at + 4 * k) (value_cells v)) (c.pair_at.ensures ∙ ap (pair_at a.cells.now) same))
     (c.pair_at-in-loop-k.ensures ∙ ap (λ n. pair_at a.cells.now (n + 2)) same)
-    ∙ named_more area a.cells.now a.rest.now k a.at a.board.now at.board (c.requires.0.text k below) (omega arith) (at.invariant area) at.auto.board
+    ∙ named_more area a.cells.now a.resolved.now.rest k a.at a.board.now at.board (c.requires.0.text k below) (omega arith) (at.invariant area) at.auto.board
 
 pub returns : goal.returns
 returns c area =
     let a = c.args in
     let at = c.loop-k in
-    let whole : at.k ≡ a.count = omega arith in
+    let whole : at.k ≡ a.resolved.now.count = omega arith in
     at.invariant area
     ∙ ap (λ vs. stored a.board.now a.at (write_each named_cells vs))
-    (ap (listed (λ j. named_at area a.cells.now (get_or a.rest.now j 0)) 0) whole
-    ∙ sym (held_listed area a.cells.now a.rest.now a.count (omega arith)))
+    (ap (listed (λ j. named_at area a.cells.now (get_or a.resolved.now.rest j 0)) 0) whole
+    ∙ sym (held_listed area a.cells.now a.resolved.now.rest a.resolved.now.count (omega arith)))

@@ -12,4 +12,4 @@ use Rattle.slots.proofs.board.write_named.Given as goal
 
 abbrev pub invariant-loop-k : goal.invariant-loop-k
 invariant-loop-k l =
-    (area : List ℕ) → l.board ≡ stored l.initial.board l.at (write_each named_cells (listed (λ j. named_at area l.cells (get_or l.fn.rest j 0)) 0 l.k))
+    (area : List ℕ) → l.board ≡ stored l.initial.board l.at (write_each named_cells (listed (λ j. named_at area l.cells (get_or l.fn.resolved.rest j 0)) 0 l.k))

@@ -17,15 +17,15 @@ loop-k-preserved c =
     let at = c.loop-k in
     let a = c.args in
     let slot = c.slot_at-slot.result in
-    let is : slot_in slot a.star a.named ≡ slot_at a.params.now a.sources.now a.cells.now (head_of a.h) a.next at.k a.star a.named = ap (λ g. g a.star a.named) c.slot_at-slot.ensures in
+    let is : slot_in slot a.star a.resolved.now.count ≡ slot_at a.params.now a.resolved.now.sources a.call.now.cells.now (head_of a.call.now.head) a.resolved.now.next at.k a.star a.resolved.now.count = ap (λ g. g a.star a.resolved.now.count) c.slot_at-slot.ensures in
     let held = c.pair.ensures ∙ ap slot_value is in
-    let t = c.taken-taken.ensures ∙ ap (λ b. cond b 1 0) (slot_taken slot a.star a.named ∙ ap is_taken is) in
-    let d = c.defaulted-defaulted.ensures ∙ ap (λ b. cond b 1 0) (slot_defaulted slot a.star a.named ∙ ap is_defaulted is) in
+    let t = c.taken-taken.ensures ∙ ap (λ b. cond b 1 0) (slot_taken slot a.star a.resolved.now.count ∙ ap is_taken is) in
+    let d = c.defaulted-defaulted.ensures ∙ ap (λ b. cond b 1 0) (slot_defaulted slot a.star a.resolved.now.count ∙ ap is_defaulted is) in
     record {
       taken = omega (arith, at_most_one (is_taken (slot_in slot 0 0)));
       defaulted = omega (arith, at_most_one (is_defaulted (slot_in slot 0 0)));
       filling =
           rw (c.put_inside.ensures, held)
-          (filling_more (λ k. slot_at a.params.now a.sources.now a.cells.now (head_of a.h) a.next k a.star a.named) at.k a.board.now at.board at.taken at.defaulted
+          (filling_more (λ k. slot_at a.params.now a.resolved.now.sources a.call.now.cells.now (head_of a.call.now.head) a.resolved.now.next k a.star a.resolved.now.count) at.k a.board.now at.board at.taken at.defaulted
           c.taken-taken.result c.defaulted-defaulted.result at.invariant.filling (omega arith) t d);
     }

@@ -10,5 +10,5 @@ invariant-loop-k l =
     record {
       taken : l.taken ≤ l.k;
       defaulted : l.defaulted ≤ l.k;
-      filling : Filling (slots_of l.params l.sources l.cells (head_of l.h) l.next l.star l.named l.k) l.initial.board l.board (record { taken = l.taken; defaulted = l.defaulted });
+      filling : Filling (slots_of l.params l.resolved.sources l.call.cells.now (head_of l.call.head) l.resolved.next l.star l.resolved.count l.k) l.initial.board l.board (record { taken = l.taken; defaulted = l.defaulted });
     }

@@ -9,5 +9,5 @@ use Rattle.prepared.proofs.row.Row.slot.Goals as goal
 pub returns-then-self-le8 : goal.returns-then-self-le8
 returns-then-self-le8 c =
     let area = c.args.area.now in
-    let name = c.args.self.name in
+    let name = c.args.self.step.name in
     ap (λ n. n % 929) (c.requires.1 ∙ last_few (bytes_at area name) (bytes_few area name c.if-self-le8.true))
