@@ -13,9 +13,10 @@ import sys
 
 # point, what is counted, a pattern for one line
 PATTERNS = [
-    ('1', 'own enums', r'^\s*(pub )?enum \w'),
+    ('1', 'own enums', r'^\s*(pub(\(crate\))? )?enum \w'),
     ('1', 'a flag or an answer beside the value it judges', r'^\s*(pub )?(right: bool|answer: (Answer|Result<\(\), Question>)),'),
     ('1', 'numbers for refusals', r'(Refused|Record|refused)\((u64|\d+)\)|const BAD_\w+: u64|Bad\(usize\)|return (refused|self\.refused)\(\d'),
+    ('1', 'numbers for a flag', r'(marks|used|named): (&mut )?\[(u8|usize); (SLOTS|64)\]'),
     ('1', 'numbers for nothing', r'NOWHERE: usize|other: usize|Unknown,$|Unknown => |Absent,$'),
     ('3', 'loops that count by hand', r"^\s*('\w+: )?while "),
     ('4', 'equality, order, copies and numbers by hand',
@@ -25,6 +26,16 @@ PATTERNS = [
     ('6', 'arrays with a length beside', r'\[\w+; (CAPACITY|NAMED|64)\],$|rest: \[usize; NAMED\]|sources: \[usize; 64\]'),
     ('6', 'indices in place of a slice', r'(part|name|value)_(from|to): usize|from: usize, to: usize|input: &.*from: usize'),
     ('7', 'an argument that says which step to run', r'\b(keyed: bool|role: Role|empty: Next|named: bool|yes: bool)'),
+]
+
+# what is counted, and two patterns: of a function's parameters one fits each
+TOGETHER = [
+    ('cells and area of a record lent one by one', r'\w*(cells|prepared|list|whole)\w*: &\[u64\]', r'(area|spec|call): &(\'\w+ )?\[u8\]'),
+    ('cells and head of a call lent one by one', r'cells: &\[u64\]', r'\w+: Head'),
+    ('a list and its area lent one by one', r'\w+: &(Parameters|ParametersSpec)(<.*>)?', r'(area|spec): &(\'\w+ )?\[u8\]'),
+    ('the areas and the board of a bound call lent one by one', r'call: &(\'\w+ )?\[u8\]', r'board: &(\'\w+ )?\[u64\]'),
+    ('an input and its columns lent one by one', r'input: &(\'\w+ )?\[u8\]', r'columns: Columns'),
+    ('a place in an output beside the output', r'(at|next|text): usize', r'(out|area|cells|board): &mut \[u(8|64)\]'),
 ]
 
 
@@ -56,6 +67,7 @@ def main():
     show = '--list' in sys.argv
     found = collections.OrderedDict((p[:2], []) for p in PATTERNS)
     wide, facts = [], collections.defaultdict(set)
+    together = collections.OrderedDict((what, []) for what, _, _ in TOGETHER)
     for name, text in sources(commit):
         for number, line in enumerate(text.split('\n'), 1):
             if line.lstrip().startswith('//'):
@@ -66,11 +78,16 @@ def main():
         for function, parameters, asked in functions(text):
             if len(parameters) >= 8:
                 wide.append(f'{name}: {function} ({len(parameters)})')
+            for what, one, other in TOGETHER:
+                if all(any(re.fullmatch(pattern, p.strip()) for p in parameters) for pattern in (one, other)):
+                    together[what].append(f'{name}: {function}')
             for fact in asked:
                 facts[fact].add(f'{name} {function}')
     found[('5', 'functions with eight parameters or more')] = wide
     found[('5', 'a fact that three functions or more require')] = [
         f'{len(who)} times: {fact}' for fact, who in sorted(facts.items(), key=lambda x: -len(x[1])) if len(who) >= 3]
+    for what, places in together.items():
+        found[('5', what)] = places
     for (point, what), places in sorted(found.items()):
         print(f'{point}  {len(places):3}  {what}')
         if show:
