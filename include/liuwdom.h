@@ -1,6 +1,7 @@
 /*
  * liuwdom: Starlark calls bound to parameter lists, by a library that is written in Rattle and proved (document 01 is its definition).
  * Link crates/liuwdom/out/libliuwdom.a, which `rt lib` makes in crates/liuwdom. C99; C++ takes it as it is.
+ * From outside it asks for memcpy and memset, and for nothing else.
  *
  * What the caller owes, and nothing checks: every pointer is good for its length, is not null even where the length is 0, and is aligned for
  * its type; what is lent to be written (boards, outputs, `answer`) overlaps nothing else that is lent. No function keeps a pointer, allocates,

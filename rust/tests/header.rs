@@ -1,4 +1,4 @@
-//! include/liuwdom.h against this package's declarations, and the examples in C, compiled and run.
+//! include/liuwdom.h against this package's declarations, what the archive asks for, and the examples in C, compiled and run.
 
 use std::path::PathBuf;
 use std::process::Command;
@@ -92,6 +92,21 @@ fn printed_by(example: &str) -> Option<String> {
     assert!(compiled.success());
     let output = Command::new(program).output().unwrap();
     Some(String::from_utf8(output.stdout).unwrap())
+}
+
+// A program that has these two, and no C library, can link the archive.
+#[test]
+fn the_archive_asks_for_two_names() {
+    let Ok(output) = Command::new("nm").arg("-u").arg(archive()).output() else {
+        eprintln!("no nm: what the archive asks for was not read");
+        return;
+    };
+    assert!(output.status.success());
+    let said = String::from_utf8(output.stdout).unwrap();
+    let asked = said
+        .lines()
+        .filter_map(|line| line.trim().strip_prefix("U "));
+    assert_eq!(asked.collect::<Vec<_>>(), ["memcpy", "memset"]);
 }
 
 #[test]

@@ -12,17 +12,17 @@ use lib.Dec.{eqb}
 use lib.ListN.{length, drop, get_or, length-append, length-map}
 use borrow.Author.Tests.{eqb-true}
 use Rattle.rules.specs.Listing.{all}
-use Rattle.rules.specs.Value.{Value, value_width, read_value, call_text}
+use Rattle.rules.specs.Value.{Value, value_width, read_value, call_text, no_value, well_formed_argument}
 use Rattle.rules.specs.CallRecord.{Head, head_width, pair_width, Pair, read_pair, read_head, read_call, Named, Entry, key_in, named_in, entry_in, words, named_of, call_in, star_of, double_of, items_of, entries_of, positionals_of}
 use Rattle.rules.specs.CallQuestions.{lengths_right, kind_right, kinds_right, well_formed_pair, well_formed_entry, parts_well_formed}
 use Rattle.rules.specs.Binding.{star_passes, double_passes}
-use Rattle.rules.proofs.LawsListing.{and_left, and_right}
+use Rattle.rules.proofs.LawsListing.{and_left, and_right, all_append}
 use Rattle.calls.specs.Head.{named_from, items_from, entries_from}
 use Rattle.calls.specs.Places.{in_runs, position_at, named_at}
 use Rattle.calls.specs.Runs.{values_at, pairs_at}
 use Rattle.cells.proofs.LawsListed.{all_at}
 use Rattle.calls.proofs.LawsEach.{each_length, each_map, runs_first, runs_second, runs_both, runs_within}
-use Rattle.calls.proofs.LawsCall.{call_positionals, call_named, call_items, call_entries, lengths_at_most, named_within, entries_within, parts_named, parts_entries}
+use Rattle.calls.proofs.LawsCall.{call_positionals, call_named, call_items, call_entries, lengths_at_most, positionals_within, named_within, items_within, entries_within, parts_positionals, parts_named, parts_items, parts_entries}
 
 -- ---- what question 10 says of a star
 
@@ -139,6 +139,12 @@ module _ (area cells : List ℕ) (h : Head) (read : h ≡ read_head cells) (ten 
         rw (entries_run, named_runs (h.n + k), each_map pair_width read_pair (entry_in area) h.d (drop (entries_from h) cells))
         (runs_second pair_width (λ c. entry_in area (read_pair c)) cells (named_from h) h.n (entries_from h) h.d k x l)
 
+    -- and every place lies inside the record
+    pub position_within : (k : ℕ) → k < h.p + h.s → position_at B h k + value_width ≤ length cells
+    position_within k l =
+        rw (position_runs k)
+        (runs_within value_width read_value cells head_width h.p (items_from h) h.s (length cells) k (positionals_within cells h read B nine) (items_within cells h read B nine) l)
+
     pub pair_within : (k : ℕ) → k < h.n + h.d → named_at B h k + pair_width ≤ length cells
     pair_within k l =
         rw (named_runs k)
@@ -151,6 +157,15 @@ module _ (area cells : List ℕ) (h : Head) (read : h ≡ read_head cells) (ten 
       run_formed test from count at k l e there =
           let x = read_pair [] in
           rw (sym (there x)) (all_at test (pairs_at cells from count) k x (rw (each_length pair_width read_pair count (drop from cells)) l) e)
+
+      pub positional_formed : (k : ℕ) → k < h.p + h.s → well_formed_argument area (read_value (drop (position_at B h k) cells)) ≡ true
+      positional_formed k l =
+          rw (sym (positional_at_lem k no_value l))
+          (all_at (well_formed_argument area) (positionals_of (call_in area (read_call cells))) k no_value (rw positionals_length l)
+          (rw positionals_runs
+          (all_append (well_formed_argument area) (values_at cells head_width h.p) (values_at cells (items_from h) h.s)
+          (rw (sym (call_positionals cells h read)) (parts_positionals area (read_call cells) eleven))
+          (rw (sym (call_items cells h read)) (parts_items area (read_call cells) eleven)))))
 
       pub named_formed : (k : ℕ) → k < h.n → well_formed_pair area (read_pair (drop (named_at B h k) cells)) ≡ true
       named_formed k l =

@@ -1,19 +1,22 @@
 -- The written values of a record (01, cells, texts and records), whose counts are few: they stand side by side behind the head, so their
--- cells are the record's own. Assumes nothing.
+-- cells are the record's own. And what a loop that copies those cells one by one asks for. Assumes nothing.
 use mathlib.Core.Path.{◌≡◌, refl, sym, ap, ◌∙◌}
 use mathlib.Core.Bool.{true}
 use mathlib.Core.List.{List, [], ◌∷◌}
-use Prim.Native.Nat.{ℕ, zero, suc, ◌+◌, ◌*◌, ◌≤◌}
+use Prim.Native.Nat.{ℕ, zero, suc, ◌+◌, ◌*◌, ◌≤◌, ◌<◌}
 use native.Mathlib.Nat.{zero-add}
 use native.Mathlib.Omega.{arith}
-use lib.ListN.{length, take, drop, length-drop}
+use lib.ListN.{length, take, drop, get_or, set, length-drop}
+use lib.Seq.{length-take-le, get_or-take, get_or-drop}
 use borrow.Author.Tests.{le-leb}
 use Rattle.rules.specs.Cells.{read_each, write_each}
 use Rattle.rules.specs.Value.{value_width, value_cells, read_value, no_value}
 use Rattle.rules.specs.CallRecord.{Head, head_width}
 use Rattle.cells.specs.Record.{pair_at}
 use Rattle.cells.specs.Listed.{listed}
+use Rattle.cells.specs.Out.{stored}
 use Rattle.cells.proofs.LawsListed.{elements}
+use Rattle.cells.proofs.LawsOut.{stored_more}
 use Rattle.calls.specs.Head.{at_most, Few, items_from}
 use Rattle.calls.specs.Places.{in_runs, position_at}
 use Rattle.calls.specs.Runs.{values_at}
@@ -57,3 +60,17 @@ module _ (cells : List ℕ) (h : Head) (few : Few 64 h) where
   written_cells inside =
       ap (write_each value_cells) (sym written_run)
       ∙ value_cells_lem h.p (drop 6 cells) (rw (length-drop 6 cells) (omega arith))
+
+-- one cell more of `n` cells from `from` on, stored from `at` on
+pub copied_next : (cells before board : List ℕ) (from n at k : ℕ) → from + n ≤ length cells → at + n ≤ length before → length board ≡ length before
+    → board ≡ stored before at (take k (take n (drop from cells))) → k < n
+    → set board (at + k) (get_or cells (from + k) 0) ≡ stored before at (take (k + 1) (take n (drop from cells)))
+copied_next cells before board from n at k inside room same held h =
+    ap (set board (at + k)) (sym (get_or-take n (drop from cells) k 0 h ∙ get_or-drop from cells k 0))
+    ∙ stored_more before run board at k held same (omega (arith, wide)) (omega (arith, wide))
+  where
+    run : List ℕ
+    run = take n (drop from cells)
+
+    wide : length run ≡ n
+    wide = length-take-le n (drop from cells) (rw (length-drop from cells) (omega arith))

@@ -5,7 +5,6 @@
 ghost use Rattle.std.specs.Prelude.{◌≡◌, true, false, ◌+◌};
 ghost use Rattle.rules.specs.Value.{well_formed_key};
 ghost use Rattle.rules.specs.CallQuestions.{well_formed_entry, keys_differ};
-ghost use Rattle.cells.specs.Value.{read_key};
 ghost use Rattle.cells.specs.Record.{pair_at};
 ghost use Rattle.calls.specs.Runs.{Formed, key_there, keys_at, new_key};
 ghost use Rattle.calls.specs.Keys.{same_read};
@@ -14,7 +13,7 @@ use crate::head::PAIR;
 use crate::slot::{SLOTS, key_slot};
 use cells::record::{Record, pair_at};
 use cells::text::same_text;
-use cells::value::{Key, Pair, read_key};
+use cells::value::{Key, read_key};
 
 // 12, of the `count` entries from `from` on, and 13, of written pairs. The keys are taken from the last one back, with a mark at the slot of
 // each: one whose slot has no mark is none of those behind it. Fewer than two need no marks. The Rust puts the names into a set; the marks
@@ -47,9 +46,13 @@ fn key_new(record: &Record, key: usize, count: usize, mark: bool) -> bool
         return true;
     }
     let here = pair_at(record.cells, key);
+    // Read once, and not for each of those behind it.
+    let sought = read_key(record.area, here.kind, here.payload);
     let first = key + PAIR;
     for k in 0..count {
-        if same_read(record.area, here, pair_at(record.cells, first + PAIR * k)) {
+        let there = pair_at(record.cells, first + PAIR * k);
+        let found = read_key(record.area, there.kind, there.payload);
+        if same_read(record.area, sought, found) {
             return false;
         }
     }
@@ -57,11 +60,9 @@ fn key_new(record: &Record, key: usize, count: usize, mark: bool) -> bool
 }
 
 // Are two keys equal? Texts by their bytes, whole numbers by their value; a text is never equal to a whole number, and what is no key to nothing.
-fn same_read(area: &[u8], a: Pair, b: Pair) -> bool
-    ensures { result ≡ same_read area.now (read_key area.now a.kind a.payload) (read_key area.now b.kind b.payload) }
+fn same_read(area: &[u8], a: Option<Key>, b: Option<Key>) -> bool
+    ensures { result ≡ same_read area.now a b }
 {
-    let a = read_key(area, a.kind, a.payload);
-    let b = read_key(area, b.kind, b.payload);
     match (a, b) {
         (Some(Key::Word(t)), Some(Key::Word(u))) => {
             same_text(area, t.payload(), area, u.payload())

@@ -38,8 +38,10 @@ pub fn copy_values(cells: &[u64], from: usize, count: usize, at: usize, board: &
     requires { (count ≤ 128) × (from + 2 * count ≤ length cells.now) × (at + 2 * count ≤ length board.old) }
     ensures { board.new ≡ stored board.old at (take (2 * count) (drop from cells.now)) }
 {
-    let size = VALUE * count;
-    board[at..at + size].copy_from_slice(&cells[from..from + size]);
+    // One by one, as `write_bytes` does.
+    for k in 0..VALUE * count {
+        board[at + k] = cells[from + k];
+    }
 }
 
 // The values of `count` pairs that stand side by side from a cell on, stored from cell `at` on.

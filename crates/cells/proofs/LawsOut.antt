@@ -1,14 +1,15 @@
 -- Cells stored one run after the other (01, board): lent cells that hold what was written
 -- so far, and after it what they held, hold one run more after a store at the end of what was written. That is what a loop that
--- writes asks for. Then what is stored at any index: nothing, a run behind a run, a run from cell 0 on; and bytes put behind bytes, by
--- index and by cursor.
+-- writes asks for. Then what is stored at any index: nothing, a run behind a run, a run from cell 0 on, one element more of a run;
+-- and bytes put behind bytes, by index and by cursor.
 -- Assumes nothing.
 use mathlib.Core.Path.{◌≡◌, refl, sym, ap, subst, ◌∙◌}
-use mathlib.Core.List.{List, [], ◌++◌, append_assoc, append-nil}
-use Prim.Native.Nat.{ℕ, ◌+◌, ◌≤◌}
+use mathlib.Core.List.{List, [], ◌∷◌, ◌++◌, append_assoc, append-nil}
+use Prim.Native.Nat.{ℕ, ◌+◌, ◌≤◌, ◌<◌}
+use native.Mathlib.Numerals.{add-one}
 use native.Mathlib.Omega.{arith}
-use lib.ListN.{length, take, drop, length-append, length-drop, take-append-drop}
-use lib.Seq.{length-take-le, take-append_seam, drop-append-add, drop-drop}
+use lib.ListN.{length, take, drop, get_or, set, length-append, length-drop, take-append-drop}
+use lib.Seq.{length-take-le, sets-eq, take-suc, take-append_seam, drop-append-add, drop-drop}
 use borrow.Author.Tests.{le-leb}
 use Rattle.rules.specs.Cells.{over}
 use Rattle.cells.specs.Out.{stored, Put, Wrote}
@@ -74,6 +75,20 @@ stored_length cells xs at h =
   where
     fits : length (take at cells ++ xs) ≡ length (take at cells) + length xs → length (take at cells) ≡ at → length (take at cells ++ xs) ≤ length cells
     fits l t = omega arith
+
+-- one byte more of a text
+pub stored_more : (cells text held : List ℕ) (at k : ℕ) → held ≡ stored cells at (take k text) → length held ≡ length cells → k < length text → at + length text ≤ length cells
+    → set held (at + k) (get_or text k 0) ≡ stored cells at (take (k + 1) text)
+unfolding stored
+stored_more cells text held at k e l h room =
+    let front : length (take k text) ≡ k = length-take-le k text (omega arith) in
+    set_stored
+    ∙ ap (λ z. stored z (at + k) (get_or text k 0 ∷ [])) e
+    ∙ stored_stored cells (take k text) (get_or text k 0 ∷ []) at (at + k) (ap (λ n. at + n) (sym front)) (omega arith)
+    ∙ ap (stored cells at) (sym (ap (λ n. take n text) (add-one k) ∙ take-suc text k 0 h))
+  where
+    set_stored : set held (at + k) (get_or text k 0) ≡ stored held (at + k) (get_or text k 0 ∷ [])
+    set_stored = rw (le-leb (at + k + 1) (length held) (omega arith)) (sets-eq (get_or text k 0 ∷ []) held (at + k) (omega arith))
 
 -- ---- bytes behind bytes
 

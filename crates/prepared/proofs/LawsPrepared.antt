@@ -238,6 +238,11 @@ prepared_list spec area out =
     ∙ list_back area pos_only (read_parameters spec).steps
 
 module _ (spec area out : List ℕ) (passes : ask_parameters 64 spec area ≡ fine) where
+  -- 386 cells are room enough for every list
+  pub prepared_room : 386 ≤ length out → prepared_length (length (list_of spec area)) ≤ length out
+  unfolding prepared_length front_width row_width
+  prepared_room h = omega (arith, list_few 64 spec area passes)
+
   module _ (room : prepared_length (length (list_of spec area)) ≤ length out) where
     abbrev cells : List ℕ
     cells = over (prepared_from spec area) out

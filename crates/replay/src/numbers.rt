@@ -91,9 +91,12 @@ fn scan_text(text: &[u8], start: Scan, out: &mut [u64]) -> Scan {
 
 // One digit more. No number of the input goes beyond 64 bits, so what becomes of one that does is left open.
 pub fn with_digit(value: u64, digit: u8) -> u64 {
+    if u64::MAX / 10 < value {
+        return 0;
+    }
     value
         .wrapping_mul(10)
-        .wrapping_add(u64::from(digit.wrapping_sub(b'0')))
+        .wrapping_add(u64::from(digit.saturating_sub(b'0')))
 }
 
 // Keeps a number where there is room: the count after it.

@@ -54,21 +54,22 @@ fn case_at(text: &[u8], at: usize) -> Option<Case> {
     })
 }
 
-// The decimal that begins at an index.
+// The decimal that begins at an index. It is read from there on: by `skip` each number would cost a step for every byte before it.
 fn number_at(text: &[u8], at: usize) -> Number {
+    let rest = text.get(at..).unwrap_or(&[]);
     let mut value = 0;
-    for (i, byte) in text.iter().enumerate().skip(at) {
+    for (i, byte) in rest.iter().enumerate() {
         if !byte.is_ascii_digit() {
             return Number {
                 value: value as usize,
-                end: i,
+                end: at.wrapping_add(i),
             };
         }
         value = with_digit(value, *byte);
     }
     Number {
         value: value as usize,
-        end: text.len(),
+        end: at.max(text.len()),
     }
 }
 

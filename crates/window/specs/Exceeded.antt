@@ -12,9 +12,11 @@ window_in (Ok None) = never_exceeded
 window_in (Err _) = refused_window 39 none
 
 -- before the run at `last`, and after the last one
-pub record Kept (w limit : ℕ) (minutes : List ℕ) (sum last : ℕ) : Type 0 where
+pub record Kept (w limit : ℕ) (minutes : List ℕ) (sum first last : ℕ) : Type 0 where
   pub inside : last ≤ length minutes
   -- the sum that is kept is the sum of the last w runs so far, taken afresh
   pub afresh : sum ≡ last_sum w (take last minutes)
+  -- the oldest of these is at `first`
+  pub oldest : first ≡ last - w
   -- no position so far exceeds the limit: what is looked for is the first from here on
   pub not_yet : first_exceeding w limit minutes ≡ first_index (exceeds w limit minutes) last (length minutes - last)

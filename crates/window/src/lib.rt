@@ -40,10 +40,13 @@ fn first_exceeding(minutes: &[u32], w: usize, limit: u64) -> Option<usize>
     ensures { window_in (Ok result) ≡ window_of fine (first_exceeding w limit minutes.now) }
 {
     let mut sum: u64 = 0;
+    // The position of the window's first run, kept beside that of its last.
+    let mut first = 0;
     for (last, run) in minutes.iter().enumerate() {
         sum += u64::from(*run);
         if w <= last {
-            sum -= u64::from(minutes[last - w]);
+            sum -= u64::from(minutes[first]);
+            first += 1;
         }
         if limit < sum {
             return Some(last);

@@ -1,6 +1,7 @@
 use mathlib.Core.Path.{◌≡◌, sym, ◌∙◌}
 use mathlib.Core.Bool.{false}
 use Prim.Native.Nat.{◌+◌, ◌-◌}
+use native.Mathlib.Omega.{arith}
 use lib.ListN.{get_or}
 use Rattle.lookup.specs.Lookup.{fits, fits_at, first_at}
 use Rattle.lookup.proofs.LawsFind.{first_at_hit, first_at_miss, fits_style, fits_start, fits_end, fits_size, fits_bytes, bytes_differ, bytes_next, bytes_end}
@@ -23,7 +24,7 @@ missed c e =
 
 pub candidates-preserved-then-name-size : goal.candidates-preserved-then-name-size
 candidates-preserved-then-name-size c =
-    missed (goal.at.candidates-preserved-then-name-size c).In-candidates (fits_size _ _ _ _ _ c.if-name-size.true)
+    missed (goal.at.candidates-preserved-then-name-size c).In-candidates (fits_size _ _ _ _ _ (λ e. absurd (omega (arith, c.if-name-size.true))))
 
 pub candidates-preserved-then-not-nameable_at : goal.candidates-preserved-then-not-nameable_at
 candidates-preserved-then-not-nameable_at c =

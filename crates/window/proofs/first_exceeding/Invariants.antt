@@ -5,4 +5,4 @@ use Rattle.window.specs.Exceeded.{Kept}
 use Rattle.window.proofs.first_exceeding.Given as goal
 
 abbrev pub invariant-loop-last : goal.invariant-loop-last
-invariant-loop-last l = Kept l.w l.limit l.minutes l.sum l.last
+invariant-loop-last l = Kept l.w l.limit l.minutes l.sum l.first l.last

@@ -7,6 +7,7 @@ use Rattle.rules.specs.CallRecord.{pair_width, key_in}
 use Rattle.rules.specs.CallQuestions.{same_key}
 use Rattle.cells.specs.Value.{pair_of}
 use Rattle.calls.specs.Runs.{key_there}
+use Rattle.calls.specs.Keys.{same_read}
 use Rattle.calls.proofs.LawsEach.{formed_first, formed_next}
 use Rattle.calls.proofs.LawsForm.{entry_key}
 use Rattle.calls.proofs.LawsKeys.{same_keys, new_passes, new_fails}
@@ -19,12 +20,13 @@ same : (c : After-same_read) → let a = c.args in
 same c =
     let area = c.args.record.now.area.now in
     let here : Fits w64 c.pair_at-here.result.payload = omega arith in
-    let there : Fits w64 c.pair_at.result.payload = omega arith in
+    let there : Fits w64 c.pair_at-there.result.payload = omega arith in
     c.same_read.ensures
-    ∙ same_keys area (pair_of c.pair_at-here.result) (pair_of c.pair_at.result) here there
+    ∙ ap₂ (same_read area) c.read_key-sought.ensures c.read_key-found.ensures
+    ∙ same_keys area (pair_of c.pair_at-here.result) (pair_of c.pair_at-there.result) here there
     (rw c.pair_at-here.ensures c.requires.0)
-    (rw c.pair_at.ensures (entry_key _ _ _ (formed_first _ _ _ _ (omega (arith, c.loop-k-test.true)) c.loop-k.invariant.0)))
-    ∙ ap₂ (λ v w. same_key (key_in area v) (key_in area w)) c.pair_at-here.ensures c.pair_at.ensures
+    (rw c.pair_at-there.ensures (entry_key _ _ _ (formed_first _ _ _ _ (omega (arith, c.loop-k-test.true)) c.loop-k.invariant.0)))
+    ∙ ap₂ (λ v w. same_key (key_in area v) (key_in area w)) c.pair_at-here.ensures c.pair_at-there.ensures
 
 pub returns-then-same_read : goal.returns-then-same_read
 unfolding pair_width

@@ -1,23 +1,24 @@
--- `cells::out::write_bytes` meets its contract: what is copied stands between what stood before it and what stands behind it.
--- Assumes nothing.
-use Rattle.std.specs.Prelude.{ℕ, ◌+◌, ◌-◌, length}
-use mathlib.Core.Path.{◌≡◌, refl, sym}
-use mathlib.Core.List.{append_assoc}
+use mathlib.Core.Path.{refl, sym, ap, ◌∙◌}
 use native.Mathlib.Omega.{arith}
-use lib.Seq.{drop-drop}
-use borrow.Author.Tests.{le-leb}
+use lib.ListN.{length-set}
+use lib.Seq.{take_all}
 use Rattle.cells.specs.Out.{stored}
+use Rattle.cells.proofs.LawsOut.{stored_none, stored_more}
 use Rattle.cells.proofs.out.write_bytes.Goals as goal
 
--- the end of a part that begins at `a` and has `n` elements
-end : (a n : ℕ) → a + (a + n - a) ≡ a + n
-end a n = omega arith
+pub loop-k-init : goal.loop-k-init
+loop-k-init c = (refl, sym (stored_none c.args.out.now c.args.at (omega arith)))
+
+pub loop-k-preserved : goal.loop-k-preserved
+loop-k-preserved c =
+    let a = c.args in
+    let l = c.loop-k in (
+      simp length-set l.invariant.0,
+      stored_more a.out.now a.text.now l.out a.at l.k l.invariant.1 l.invariant.0 c.loop-k-test.true c.requires,
+    )
 
 pub returns : goal.returns
-unfolding stored
 returns c =
     let a = c.args in
-    record {
-      held = rw (c.copy_from_slice.ensures.after, le-leb _ _ c.requires, drop-drop, end a.at (length a.text.now)) (sym (append_assoc _ a.text.now _));
-      ends = refl;
-    }
+    let l = c.loop-k in
+    record { held = l.invariant.1 ∙ ap (stored a.out.now a.at) (take_all l.k a.text.now c.loop-k-test.false); ends = refl }
